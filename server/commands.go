@@ -12,6 +12,7 @@ import (
 	"os"
 	"os/exec"
 	"path/filepath"
+	"strconv"
 	"strings"
 
 	"golang.org/x/crypto/ssh"
@@ -20,7 +21,7 @@ import (
 	"gitpoold/hooks"
 	"gitpoold/limits"
 	"gitpoold/operator"
-	"gitpoold/store"
+	"gitpoold/shards"
 )
 
 // program finds `gitpool`: as the flag says, as GITPOOL says, beside this program, at the top of the checkout in which this program was
@@ -62,7 +63,15 @@ func runInit(l line) error {
 	if err := os.MkdirAll(folder, 0o700); err != nil {
 		return err
 	}
-	if err := store.Create(folder, found); err != nil {
+	logs, err := logOptions(l)
+	if err != nil {
+		return err
+	}
+	count, err := shardCount(l, len(logs))
+	if err != nil {
+		return err
+	}
+	if err := shards.Create(folder, found, count, logs); err != nil {
 		return err
 	}
 	for name, text := range map[string]string{"access": accessText, "passwords": "", "keys": "", "limits": limitsText, "hooks": hooksText} {
@@ -70,15 +79,30 @@ func runInit(l line) error {
 			return err
 		}
 	}
-	if err := createHostKey(filepath.Join(folder, "host_key")); err != nil {
-		return err
-	}
-	log, err := logOptions(l)
-	if err != nil || log == nil {
-		return err
-	}
-	return store.CreateLog(folder, *log)
+	return createHostKey(filepath.Join(folder, "host_key"))
 }
+
+// shardCount tells how many shards `init` makes: as many as there are logs, else as `--shards` says, else those that there are.
+func shardCount(l line, logs int) (int, error) {
+	text, has := l.flags["--shards"]
+	if !has && logs > 0 {
+		return logs, nil
+	}
+	if !has {
+		return shards.Count(l.folder()), nil
+	}
+	count, err := strconv.Atoi(text)
+	if err != nil || count < 1 || count > mostShards {
+		return 0, fmt.Errorf("`--shards %s` is no number from 1 to %d", text, mostShards)
+	}
+	if logs > 0 && logs != count {
+		return 0, shards.ErrLogs
+	}
+	return count, nil
+}
+
+// mostShards is how many shards one server may have.
+const mostShards = 1000
 
 // createFile makes a file, unless there is one.
 func createFile(path, text string) error {

@@ -9,6 +9,7 @@ import (
 
 	"gitpoold/journal"
 	"gitpoold/poolfile"
+	"gitpoold/shards"
 	"gitpoold/store"
 )
 
@@ -38,6 +39,8 @@ type command struct {
 type line struct {
 	words []string
 	flags map[string]string
+	// logs has the values of `--log`, which may stand several times.
+	logs []string
 }
 
 // folder is the server's folder, which each command names first.
@@ -51,15 +54,15 @@ var (
 
 func commands() []command {
 	return []command{
-		{"init", "DIR [--log ADDRESS]", "make a folder for a server, and with --log a log in Redis for its journal", 1, 1,
-			append([]string{"--program"}, logFlags...), runInit},
+		{"init", "DIR [--shards N] [--log ADDRESS ..]", "make a folder for a server, with --shards or several logs for its tenants in several pools, " +
+			"and with --log a log in Redis for the journal of each", 1, 1, append([]string{"--program", "--shards"}, logFlags...), runInit},
 		{"user", "DIR USER [--key FILE]", "give a user a password, read from standard input, or the keys of a file", 2, 2,
 			[]string{"--key"}, runUser},
 		{"grant", "DIR USER PATTERN r|rw", "let a user, or '*' for everyone, read or also write tenants: acme/site, 'acme/*' or '*'", 4, 4,
 			nil, runGrant},
 		{"revoke", "DIR USER [PATTERN]", "take a grant back; without a pattern all grants, the password and the keys", 2, 3, nil, runRevoke},
 		{"serve", "DIR [--http ADDRESS] [--ssh ADDRESS] [--socket PATH] [--certificate FILE --certificate-key FILE] " +
-			"[--log ADDRESS [--log-wait TIME] [--replicas N] [--log-unsynced]] [--pool-copy PATH]", "serve until SIGTERM", 1, 1,
+			"[--log ADDRESS .. [--log-wait TIME] [--replicas N] [--log-unsynced]] [--pool-copy PATH]", "serve until SIGTERM", 1, 1,
 			append([]string{"--http", "--ssh", "--socket", "--program", "--certificate", "--certificate-key", "--pool-copy"}, logFlags...), runServe},
 		{"status", "DIR", "tell how the running server stands", 1, 1, []string{"--socket"}, runCall},
 		{"save", "DIR", "save the pool file now", 1, 1, []string{"--socket"}, runCall},
@@ -67,6 +70,7 @@ func commands() []command {
 		{"copy", "DIR FROM TO", "copy a tenant to an empty one", 3, 3, []string{"--socket"}, runCall},
 		{"remove", "DIR TENANT", "remove a tenant", 2, 2, []string{"--socket"}, runCall},
 		{"compact", "DIR TENANT", "drop what no ref of a tenant reaches", 2, 2, []string{"--socket"}, runCall},
+		{"move", "DIR TENANT SHARD", "move a tenant to another shard", 3, 3, []string{"--socket"}, runCall},
 		{"limits", "DIR [NAME VALUE | quota TENANT VALUE | daily-bytes|daily-child USER VALUE]", "list the limits, or set one; the value `default` unsets it", 1, 4, nil, runLimits},
 		{"hooks", "DIR [add|remove PATTERN WHERE]", "list the hooks, or let a program or an http address be told of pushes", 1, 4,
 			nil, runHooks},
@@ -112,10 +116,11 @@ func (c command) start(words []string) int {
 func statusOf(err error) int {
 	var damaged *journal.Damaged
 	var bad *journal.BadLog
+	var two *shards.TwoPlaces
 	switch {
 	case errors.As(err, &bad) && bad.IsTaken:
 		return statusDevice
-	case errors.As(err, &damaged), errors.As(err, &bad), errors.Is(err, poolfile.ErrForm), errors.Is(err, store.ErrLoad):
+	case errors.As(err, &damaged), errors.As(err, &bad), errors.As(err, &two), errors.Is(err, poolfile.ErrForm), errors.Is(err, store.ErrLoad):
 		return statusDamaged
 	case errors.Is(err, store.ErrInHand), errors.Is(err, os.ErrNotExist), errors.Is(err, os.ErrPermission):
 		return statusDevice
@@ -140,6 +145,10 @@ func (c command) parse(words []string) (found line, err error) {
 				return found, fmt.Errorf("`%s` has no value", name)
 			}
 			value = words[i]
+		}
+		if name == "--log" {
+			found.logs = append(found.logs, value)
+			continue
 		}
 		found.flags[name] = value
 	}

@@ -9,6 +9,7 @@ import (
 	"os"
 	"os/signal"
 	"path/filepath"
+	"runtime"
 	"sync"
 	"syscall"
 	"time"
@@ -25,6 +26,7 @@ import (
 	"gitpoold/markdown"
 	"gitpoold/metrics"
 	"gitpoold/operator"
+	"gitpoold/shards"
 	"gitpoold/site"
 	"gitpoold/sshd"
 	"gitpoold/store"
@@ -34,7 +36,7 @@ import (
 // server is what a run of `serve` has open.
 type server struct {
 	line  line
-	store *store.Store
+	store *shards.Set
 	site  *site.Site
 	door  *operator.Door
 }
@@ -43,6 +45,7 @@ type server struct {
 // second signal ends the run at once, and the journal has what is not saved.
 func runServe(l line) error {
 	syscall.Umask(0o077)
+	moreRunners()
 	// A file that may not grow is answered like a full disk, by this program and by the child.
 	signal.Ignore(syscall.SIGXFSZ)
 	signals := make(chan os.Signal, 2)
@@ -75,6 +78,17 @@ func runServe(l line) error {
 	return failed
 }
 
+// runnersByCore is how many goroutines may run at once, for each core.
+const runnersByCore = 3
+
+// moreRunners lets more goroutines run at once than there are cores, unless the environment says how many. Go looks for what has arrived when
+// a runner is free, and packers may keep as many busy as there are cores; then short questions would wait up to ten milliseconds.
+func moreRunners() {
+	if os.Getenv("GOMAXPROCS") == "" {
+		runtime.GOMAXPROCS(runnersByCore * runtime.NumCPU())
+	}
+}
+
 // open reads the folder and starts the child.
 func open(l line) (*server, error) {
 	folder := l.folder()
@@ -101,8 +115,8 @@ func open(l line) (*server, error) {
 	if err != nil {
 		return nil, err
 	}
-	pool, err := store.Open(store.Config{Folder: folder, Program: found, ChildMemory: values.ChildMemory, Log: redis,
-		Copy: l.flags["--pool-copy"], Stop: stopAtOnce, Tell: log.Printf})
+	pool, err := shards.Open(shards.Config{Logs: redis, Store: store.Config{Folder: folder, Program: found, ChildMemory: values.ChildMemory,
+		Copy: l.flags["--pool-copy"], Stop: stopAtOnce, Tell: log.Printf}})
 	if err != nil {
 		return nil, err
 	}

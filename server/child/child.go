@@ -28,7 +28,7 @@ const (
 	queueSteps = 1 << 12
 )
 
-// Class says which batches wait for which: at most two bulk batches are with the child at once, so that a short question soon has
+// Class says which batches wait for which: at most one bulk batch is with the child at once, so that a short question soon has
 // its turn.
 type Class int
 
@@ -38,7 +38,7 @@ const (
 	Bulk
 )
 
-const bulkAtOnce = 2
+const bulkAtOnce = 1
 
 // Process is one run of the program. Its methods may be called by many goroutines at once.
 type Process struct {

@@ -23,6 +23,12 @@ const (
 	// TakenOver says that a server has taken a log in Redis over: what it drew at random, so that no two histories have the same chain,
 	// and the name of its machine.
 	TakenOver frames.Kind = 33
+	// Placed says in a table of places where a tenant is; the number of the shard has 4 bytes. Moving says that it is on its way to a shard,
+	// Moved that it is there and may be at its old place too, whose number follows, and Settled that it is at its place alone.
+	Placed  frames.Kind = 34
+	Moving  frames.Kind = 35
+	Moved   frames.Kind = 36
+	Settled frames.Kind = 37
 )
 
 // A record is a head, a frame, and a chain: the length of the frame (4 bytes), the record's number (8), and the CRC-32C of both (4);

@@ -56,6 +56,12 @@ func (a Address) String() string {
 	return scheme + "://" + strings.Join(a.hosts, ",") + "/" + front + a.key
 }
 
+// Beside gives the address of another log of the same service, under a key that goes on with a word.
+func (a Address) Beside(word string) Address {
+	a.key += "/" + word
+	return a
+}
+
 // dial connects to a host. Nothing waits for it longer than `within`.
 func (a Address) dial(host string, within time.Duration) (redis.Conn, error) {
 	options := []redis.DialOption{redis.DialConnectTimeout(within), redis.DialReadTimeout(within), redis.DialWriteTimeout(within)}

@@ -178,7 +178,7 @@ func (w rewriter) target(to string, isImage bool) string {
 	switch {
 	case err != nil || u.Opaque != "" && u.Scheme != "mailto":
 		return ""
-	case u.Scheme == "http", u.Scheme == "https", u.Scheme == "mailto":
+	case (u.Scheme == "http" || u.Scheme == "https") && u.Host != "", u.Scheme == "mailto":
 		return u.String()
 	case u.Scheme != "" || u.Host != "":
 		return ""

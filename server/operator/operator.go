@@ -10,11 +10,13 @@ import (
 	"io"
 	"net"
 	"os"
+	"strconv"
 	"strings"
 	"sync"
 	"time"
 
 	"gitpoold/journal"
+	"gitpoold/shards"
 	"gitpoold/site"
 	"gitpoold/store"
 	"gitpoold/tenants"
@@ -23,11 +25,11 @@ import (
 // Door is a server's socket.
 type Door struct {
 	site  *site.Site
-	store *store.Store
+	store *shards.Set
 }
 
-// New gives the socket of a site over a store.
-func New(s *site.Site, over *store.Store) *Door { return &Door{s, over} }
+// New gives the socket of a site over the shards that it serves.
+func New(s *site.Site, over *shards.Set) *Door { return &Door{s, over} }
 
 // Listen makes a socket that only the server's user may open, in the place of one that no server has.
 func Listen(path string) (net.Listener, error) {
@@ -137,6 +139,7 @@ func (d *Door) command(ctx context.Context, words []string) (string, error) {
 		"copy":    {2, d.copy},
 		"remove":  {1, d.remove},
 		"compact": {1, d.compact},
+		"move":    {2, d.move},
 	}
 	it, found := known[words[0]]
 	if !found || len(words)-1 != it.words {
@@ -161,6 +164,14 @@ func (d *Door) compact(ctx context.Context, words []string) (string, error) {
 	return "", d.operate(words[1:], func() error { return d.store.Compact(ctx, words[1]) })
 }
 
+func (d *Door) move(ctx context.Context, words []string) (string, error) {
+	shard, err := strconv.Atoi(words[2])
+	if err != nil {
+		return "", fmt.Errorf("%q is no number of a shard", words[2])
+	}
+	return "", d.operate(words[1:2], func() error { return d.store.Move(ctx, words[1], shard) })
+}
+
 // operate asks something of the store about these tenants. A refusal is told in a sentence.
 func (d *Door) operate(names []string, do func() error) error {
 	for _, name := range names {
@@ -180,21 +191,26 @@ func (d *Door) operate(names []string, do func() error) error {
 func (d *Door) tenants(context.Context, []string) (string, error) {
 	var text strings.Builder
 	for _, it := range d.store.Usages() {
-		fmt.Fprintf(&text, "%s objects %d refs %d bytes %d own %d since %d quota %d\n", it.Name, it.Objects, it.Refs, it.Bytes, it.Own,
+		fmt.Fprintf(&text, "%s objects %d refs %d bytes %d own %d since %d quota %d", it.Name, it.Objects, it.Refs, it.Bytes, it.Own,
 			it.Since, d.site.Limits.Quota(it.Name))
+		if d.store.Count() > 1 {
+			fmt.Fprintf(&text, " shard %d", d.store.ShardOf(it.Name))
+		}
+		text.WriteString("\n")
 	}
 	return text.String(), nil
 }
 
 // status has a line for each number.
 func (d *Door) status(context.Context, []string) (string, error) {
-	state := d.store.State()
+	states := d.store.States()
+	state := together(states)
 	var text strings.Builder
 	line := func(name string, value any) { fmt.Fprintf(&text, "%-18s %v\n", name, value) }
 	line("version", d.site.Version)
 	line("answering", state.IsAnswering)
-	line("child", state.ChildPid)
-	line("child-bytes", residentBytes(state.ChildPid))
+	line("child", childrenOf(states))
+	line("child-bytes", residentOf(states))
 	line("server-bytes", residentBytes(os.Getpid()))
 	line("connections", d.site.Limits.Connections())
 	line("streams", state.Streams)
@@ -202,7 +218,9 @@ func (d *Door) status(context.Context, []string) (string, error) {
 	line("pushes", state.Pushes)
 	line("given-up", state.GivenUp)
 	line("journal-bytes", state.JournalBytes)
-	line("journal-segments", fmt.Sprintf("%d to %d", state.FirstSegment, state.LastSegment))
+	if len(states) == 1 {
+		line("journal-segments", fmt.Sprintf("%d to %d", state.FirstSegment, state.LastSegment))
+	}
 	line("journal-records", state.Records)
 	line("journal-broken", state.JournalBroken)
 	if log := state.Log; log != nil {
@@ -214,6 +232,9 @@ func (d *Door) status(context.Context, []string) (string, error) {
 	line("failed-saves", state.FailedSaves)
 	line("last-save", when(state.LastSave))
 	line("children-replaced", state.Recoveries)
+	if len(states) > 1 {
+		tellShards(&text, states)
+	}
 	return text.String(), nil
 }
 
@@ -224,24 +245,11 @@ func when(t time.Time) string {
 	return t.UTC().Format(time.RFC3339)
 }
 
-// residentBytes is how much memory a process has, 0 where that is not known.
-func residentBytes(pid int) int64 {
-	text, err := os.ReadFile(fmt.Sprintf("/proc/%d/statm", pid))
-	var size, resident int64
-	if err != nil {
-		return 0
-	}
-	if _, err := fmt.Sscan(string(text), &size, &resident); err != nil {
-		return 0
-	}
-	return resident * int64(os.Getpagesize())
-}
-
 // Measure lets metrics tell how the store stands.
 func (d *Door) Measure() {
 	m := d.site.Metrics
 	number := func(read func(store.State) int64) func() float64 {
-		return func() float64 { return float64(read(d.store.State())) }
+		return func() float64 { return float64(read(together(d.store.States()))) }
 	}
 	m.Counter("gitpoold_steps_total", "Steps that the child was sent.", number(func(s store.State) int64 { return s.Steps }))
 	m.Counter("gitpoold_pushes_total", "Streams that ended well.", number(func(s store.State) int64 { return s.Pushes }))
@@ -252,22 +260,22 @@ func (d *Door) Measure() {
 		number(func(s store.State) int64 { return s.Recoveries }))
 	m.Gauge("gitpoold_journal_bytes", "The size of the journal.", number(func(s store.State) int64 { return s.JournalBytes }))
 	m.Gauge("gitpoold_journal_broken", "1 while the journal takes no pushes.", number(func(s store.State) int64 { return one(s.JournalBroken) }))
-	if d.store.State().Log != nil {
+	if together(d.store.States()).Log != nil {
 		d.measureLog()
 	}
 	m.Gauge("gitpoold_answering", "1 while questions are answered, 0 while the child is replaced or saves.",
 		number(func(s store.State) int64 { return one(s.IsAnswering) }))
 	m.Gauge("gitpoold_open_streams", "Streams that are open.", number(func(s store.State) int64 { return int64(s.Streams) }))
 	m.Gauge("gitpoold_connections", "Connections that are open.", func() float64 { return float64(d.site.Limits.Connections()) })
-	m.Gauge("gitpoold_child_resident_bytes", "The memory of the child.",
-		number(func(s store.State) int64 { return residentBytes(s.ChildPid) }))
+	m.Gauge("gitpoold_child_resident_bytes", "The memory of the children.", func() float64 { return float64(residentOf(d.store.States())) })
+	m.Gauge("gitpoold_shards", "Shards.", func() float64 { return float64(d.store.Count()) })
 	m.Gauge("gitpoold_server_resident_bytes", "The memory of the server.", func() float64 { return float64(residentBytes(os.Getpid())) })
 }
 
 // measureLog lets metrics tell how a journal in Redis stands.
 func (d *Door) measureLog() {
 	number := func(read func(journal.RedisCounts) float64) func() float64 {
-		return func() float64 { return read(*d.store.State().Log) }
+		return func() float64 { return read(*together(d.store.States()).Log) }
 	}
 	m := d.site.Metrics
 	m.Gauge("gitpoold_log_answering", "1 while the Redis of the journal takes records.",

@@ -19,6 +19,7 @@ import (
 	"gitpoold/limits"
 	"gitpoold/logs"
 	"gitpoold/metrics"
+	"gitpoold/shards"
 	"gitpoold/site"
 	"gitpoold/store"
 	"gitpoold/tenants"
@@ -42,7 +43,7 @@ func served(t testing.TB, limitLines string) string {
 	must(t, err)
 	who, err := access.Load(folder, log.Printf)
 	must(t, err)
-	s, err := store.Open(store.Config{Folder: folder, Program: program, Tell: log.Printf})
+	s, err := shards.Open(shards.Config{Store: store.Config{Folder: folder, Program: program, Tell: log.Printf}})
 	must(t, err)
 	door := New(&site.Site{Pool: tenants.New(s, bounds.Quota), Access: who, Limits: bounds, Log: log, Metrics: m, Version: "9"}, s)
 	door.Measure()

@@ -187,16 +187,22 @@ func TestWhatIsRefused(t *testing.T) {
 		"an instruction 0":             {newMaker(2).entry(3, 14, nil, blob).entry(7, 3, name[:], delta(14, 1, 0)).done(), Usual, "does not fit"},
 		"a long chain":                 {chain(5000), Usual, "chain"},
 	} {
-		var before, after runtime.MemStats
-		runtime.ReadMemStats(&before)
-		_, err := read(t, it.pack, noBase{}, it.limits)
-		runtime.ReadMemStats(&after)
-		if err == nil || !strings.Contains(err.Error(), it.says) {
-			t.Errorf("%s: %v", what, err)
-		}
-		if used := after.TotalAlloc - before.TotalAlloc; used > 64<<20 {
-			t.Errorf("%s takes %d bytes", what, used)
-		}
+		isRefused(t, what, it.pack, it.limits, it.says)
+	}
+}
+
+// isRefused asks that a pack is refused in a sentence with these words, and takes little memory.
+func isRefused(t *testing.T, what string, pack []byte, limits Limits, says string) {
+	t.Helper()
+	var before, after runtime.MemStats
+	runtime.ReadMemStats(&before)
+	_, err := read(t, pack, noBase{}, limits)
+	runtime.ReadMemStats(&after)
+	if err == nil || !strings.Contains(err.Error(), says) {
+		t.Errorf("%s: %v", what, err)
+	}
+	if used := after.TotalAlloc - before.TotalAlloc; used > 64<<20 {
+		t.Errorf("%s takes %d bytes", what, used)
 	}
 }
 

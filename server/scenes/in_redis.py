@@ -33,8 +33,8 @@ WAITED = (rb"journal did not answer while it kept this push; fetch to see whethe
 class RedisServer:
     """A redis-server on a free port, whose folder outlives it."""
 
-    def __init__(self, room: ServerRoom):
-        self.folder = room.path("redis")
+    def __init__(self, room: ServerRoom, name: str = "redis"):
+        self.folder = room.path(name)
         os.mkdir(self.folder)
         with socket.socket() as free:
             free.bind(("127.0.0.1", 0))

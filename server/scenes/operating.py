@@ -203,6 +203,10 @@ def commands_say_what_is_wrong(room: ServerRoom) -> None:
         assert done.returncode == status and says in text(done.stdout + done.stderr), (words, done)
 
 
+# Waits, a minute at most, until a server has said in the file `log` that it serves.
+SERVES = "for _ in {1..600}; do ! grep -qs 'serving ssh' log || break; sleep 0.1; done"
+
+
 @over_http
 def the_first_commands_of_the_manual_serve_a_repository(room: ServerRoom) -> None:
     """Runs the two blocks of docs/SERVER.md that follow the packages, with other places and ports."""
@@ -211,7 +215,7 @@ def the_first_commands_of_the_manual_serve_a_repository(room: ServerRoom) -> Non
     room.site("mine")
     script = "".join(blocks).replace("alice@", "alice:correct%20horse%20battery@", 2).replace("./gitpoold", room.server_program)
     for old, new in (("/srv/git", room.path("srv")), ("/path/to/your/repository", room.path("mine")), ("site.git main", "site.git main; true"),
-                     ("2222 &", "2222 > log 2>&1 & sleep 2"), ("127.0.0.1:8080", f"127.0.0.1:{free_port()}"), ("127.0.0.1:2222", f"127.0.0.1:{free_port()}")):
+                     ("2222 &", "2222 > log 2>&1 & " + SERVES), ("127.0.0.1:8080", f"127.0.0.1:{free_port()}"), ("127.0.0.1:2222", f"127.0.0.1:{free_port()}")):
         script = script.replace(old, new)
     assert script.count("git clone") == 2 and "git -C" in script, script
     first, second = script.split("    git clone ssh://")

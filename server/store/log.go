@@ -119,10 +119,13 @@ func isOfLog(err error) bool {
 func (s *Store) lost(why error) {
 	var bad *journal.BadLog
 	if !errors.As(why, &bad) || !bad.IsTaken {
-		s.rescue()
+		s.Rescue()
 	}
 	s.config.Stop(why)
 }
+
+// Rescue saves what the child has beside the pool file, once.
+func (s *Store) Rescue() { s.rescued.Do(s.rescue) }
 
 // rescueWithin is how long a server that stops waits for those who use the child.
 const rescueWithin = 10 * time.Second

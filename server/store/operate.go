@@ -126,6 +126,9 @@ func (s *Store) readSizes(process *child.Process) error {
 	}
 	s.mutex.Lock()
 	defer s.mutex.Unlock()
-	s.sizes, s.since = sizes, map[string]int64{}
+	s.sizes, s.since, s.total = sizes, map[string]int64{}, 0
+	for _, it := range sizes {
+		s.total += it.Bytes
+	}
 	return nil
 }

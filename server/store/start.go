@@ -28,7 +28,7 @@ func (s *Store) start() error {
 		return err
 	}
 	said := &lines{tell: s.config.Tell}
-	process, room, err := s.startChild(said)
+	process, room, err := s.startChild(s.folder("pool"), said)
 	if err != nil {
 		return err
 	}
@@ -61,13 +61,14 @@ func (l *loadError) Is(err error) bool {
 	return err == ErrLoad && !errors.Is(l.reason, journal.ErrUnread)
 }
 
-func (s *Store) startChild(said io.Writer) (*child.Process, string, error) {
+// startChild starts a child in a room of its own, on a link of a pool file.
+func (s *Store) startChild(pool string, said io.Writer) (*child.Process, string, error) {
 	room, err := os.MkdirTemp(s.work(), "child-")
 	if err != nil {
 		return nil, "", err
 	}
 	file := filepath.Join(room, "pool")
-	if err := linkOrCopy(s.folder("pool"), file); err != nil {
+	if err := linkOrCopy(pool, file); err != nil {
 		return nil, "", err
 	}
 	words := []string{s.config.Program, "host", "--pool", file}

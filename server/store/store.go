@@ -71,11 +71,15 @@ type Store struct {
 	stopping chan struct{}
 	closing  chan struct{}
 	once     sync.Once
+	rescued  sync.Once
 
 	// Who is inside `steps` may use the process; while the gate is shut, it is replaced, saves, or carries out a request of the operator.
 	steps   *gate
 	process *child.Process
 	room    string
+
+	// Each stream is inside `streams`. While that gate is shut, no stream is open and none begins.
+	streams *gate
 
 	mutex  sync.Mutex
 	newest *child.Process
@@ -83,6 +87,7 @@ type Store struct {
 	ends   map[uint64]end
 	sizes  map[string]Size
 	since  map[string]int64
+	total  int64
 	counts Counts
 	taken  atomic.Int64
 }
@@ -100,7 +105,8 @@ func Open(config Config) (*Store, error) {
 		return nil, err
 	}
 	s := &Store{config: config, locks: held, maintain: make(chan struct{}, 1), wanted: make(chan struct{}, 1),
-		stopping: make(chan struct{}), closing: make(chan struct{}), steps: newGate(), open: map[string]*Stream{}, ends: map[uint64]end{}}
+		stopping: make(chan struct{}), closing: make(chan struct{}), steps: newGate(), streams: newGate(),
+		open: map[string]*Stream{}, ends: map[uint64]end{}}
 	if err := s.begin(); err != nil {
 		held.close()
 		return nil, err
@@ -192,8 +198,14 @@ func sweep(folder string) error {
 // Batch is a run of questions that were asked together.
 type Batch = child.Batch
 
+// Answers are those to questions that were asked together. They may be waited for.
+type Answers interface {
+	// Wait gives the answers in the order of the questions, child.ErrGone, or the context's error.
+	Wait(ctx context.Context) ([]frames.Answer, error)
+}
+
 // Ask sends questions to the child in one batch. It waits while the child is replaced, as long as the context lasts.
-func (s *Store) Ask(ctx context.Context, class child.Class, steps ...frames.Step) (*Batch, error) {
+func (s *Store) Ask(ctx context.Context, class child.Class, steps ...frames.Step) (Answers, error) {
 	if err := s.enter(ctx); err != nil {
 		return nil, err
 	}
@@ -268,6 +280,9 @@ type State struct {
 	Records       uint64
 	IsAnswering   bool
 	ChildPid      int
+	// Tenants is how many tenants have something, and TenantBytes how much all of them have.
+	Tenants     int
+	TenantBytes int64
 	// Log is nil where the journal is in files.
 	Log *journal.RedisCounts
 }
@@ -282,7 +297,12 @@ func (s *Store) State() State {
 		state.Log = &counts
 	}
 	s.mutex.Lock()
-	state.Streams = len(s.open)
+	state.Streams, state.Tenants, state.TenantBytes = len(s.open), len(s.sizes), s.total
+	for name := range s.since {
+		if _, isSaved := s.sizes[name]; !isSaved {
+			state.Tenants++
+		}
+	}
 	s.mutex.Unlock()
 	if s.steps.tryEnter() {
 		state.IsAnswering, state.ChildPid = true, s.process.Pid()
@@ -295,6 +315,17 @@ func (s *Store) State() State {
 func (s *Store) Close(ctx context.Context) error {
 	close(s.stopping)
 	err := s.Save(ctx)
+	s.end()
+	return err
+}
+
+// Abort ends the store without a save. The journal has what the pool file lacks.
+func (s *Store) Abort() {
+	close(s.stopping)
+	s.end()
+}
+
+func (s *Store) end() {
 	s.once.Do(func() { close(s.closing) })
 	s.maintain <- struct{}{}
 	s.process.Kill()
@@ -303,5 +334,4 @@ func (s *Store) Close(ctx context.Context) error {
 	os.RemoveAll(s.room)
 	s.journal.Close()
 	s.locks.close()
-	return err
 }

@@ -2,6 +2,7 @@ package store
 
 import (
 	"context"
+	"errors"
 	"sync"
 
 	"gitpoold/child"
@@ -82,10 +83,23 @@ func replies(answers []frames.Answer) (all []byte, err error) {
 	return all, nil
 }
 
-// Begin opens a stream of a tenant, which has to be ended by Commit or given up. A tenant that has one is refused under 31.
+// Late gives Refused under 31 for the error of a context whose time is over: no stream could be opened so soon.
+func Late(err error) error {
+	if errors.Is(err, context.DeadlineExceeded) {
+		return &Refused{31}
+	}
+	return err
+}
+
+// Begin opens a stream of a tenant, which has to be ended by Commit or given up. A tenant that has one is refused under 31, and so is one that
+// had to wait for longer than the context lasts because a tenant is moved.
 func (s *Store) Begin(ctx context.Context, tenant string, form Form) (*Stream, error) {
 	st := &Stream{store: s, tenant: tenant, form: form}
+	if err := s.streams.enter(ctx); err != nil {
+		return nil, Late(err)
+	}
 	if !s.register(st) {
+		s.streams.leave()
 		return nil, &Refused{31}
 	}
 	pending, err := st.openIn(ctx)
@@ -308,8 +322,10 @@ func (st *Stream) close(well bool) {
 	}
 	if well || st.form == Checkpoints {
 		s.since[st.tenant] += st.fed
+		s.total += st.fed
 	}
 	s.mutex.Unlock()
+	s.streams.leave()
 }
 
 // end is an End of a tenant, or a request of the operator, that is in the journal, and of which nobody was told.

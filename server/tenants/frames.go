@@ -64,7 +64,13 @@ func (s *FrameStream) GiveUp() {
 
 // Pass asks for the child's answers to questions in frames, in one batch.
 func (p *Pool) Pass(ctx context.Context, questions []frames.Step) (func(context.Context) ([]frames.Answer, error), error) {
-	batch, err := p.store.Ask(ctx, child.Short, questions...)
+	class := child.Short
+	for _, question := range questions {
+		if question.Kind == frames.Missing || question.Kind == frames.Entries {
+			class = child.Bulk
+		}
+	}
+	batch, err := p.store.Ask(ctx, class, questions...)
 	if err != nil {
 		return nil, err
 	}

@@ -1,8 +1,10 @@
 package tenants
 
 import (
+	"bytes"
 	"context"
 	"encoding/binary"
+	"fmt"
 	"math/bits"
 
 	"gitpoold/child"
@@ -36,9 +38,8 @@ func (l Listing) With(name Name, kind Kind, size uint64) Listing {
 	return binary.BigEndian.AppendUint64(append(append(l, name[:]...), byte(kind)), size)
 }
 
-// Keep gives those objects for which `keep` gives true. The listing itself has them no more.
-func (l Listing) Keep(keep func(at int) bool) Listing {
-	kept := l[:0]
+// Keep gives a listing of those objects for which `keep` gives true.
+func (l Listing) Keep(keep func(at int) bool) (kept Listing) {
 	for at := 0; at < l.Len(); at++ {
 		if keep(at) {
 			kept = append(kept, l[at*listedBytes:(at+1)*listedBytes]...)
@@ -47,9 +48,93 @@ func (l Listing) Keep(keep func(at int) bool) Listing {
 	return kept
 }
 
+// A history is listed in parts, so that short questions wait some milliseconds for it: about commitsAtOnce commits of its first parents at
+// once, and at most mostParts parts, since the child looks at all objects for each.
+const (
+	commitsAtOnce = 256
+	mostParts     = 64
+)
+
 // Missing lists what the wants reach and the haves do not, each object after all that it refers to. A want that the tenant has not gives
-// ErrMissing; a have that it has not counts for nothing.
+// ErrMissing; a have that it has not counts for nothing. Without haves, fetches that ask for the same at once share the listing.
 func (t Tenant) Missing(ctx context.Context, wants, haves []Name) (Listing, error) {
+	if len(wants) == 0 || len(haves) > 0 {
+		return t.missing(ctx, wants, haves)
+	}
+	key := string(appendNames([]byte(t.name+" "), wants))
+	return t.pool.listings.share(ctx, key, func(ctx context.Context) (Listing, error) { return t.inParts(ctx, wants) })
+}
+
+// inParts lists what the wants reach. The first want's history comes in parts.
+func (t Tenant) inParts(ctx context.Context, wants []Name) (listing Listing, err error) {
+	points, err := t.points(ctx, wants[0])
+	if err != nil {
+		return nil, err
+	}
+	var haves []Name
+	for _, point := range points {
+		part, err := t.missing(ctx, []Name{point}, haves)
+		if err != nil {
+			return nil, err
+		}
+		listing, haves = append(listing, part...), []Name{point}
+	}
+	rest, err := t.missing(ctx, wants, haves)
+	if err != nil {
+		return nil, err
+	}
+	return append(listing, rest...), nil
+}
+
+// points gives commits at which to part the history of an object, the oldest first: ancestors by first parents, each of which reaches the
+// ones before it. An object that leads to no commit, or to a short history, has none.
+func (t Tenant) points(ctx context.Context, of Name) ([]Name, error) {
+	var distances []int
+	for distance := commitsAtOnce; distance < 1<<30; distance *= 2 {
+		distances = append(distances, distance)
+	}
+	found, err := t.ancestors(ctx, of, distances)
+	if err != nil || len(found) == 0 {
+		return nil, err
+	}
+	found, err = t.ancestors(ctx, of, partings(distances[len(found)-1]*2))
+	for low, high := 0, len(found)-1; low < high; low, high = low+1, high-1 {
+		found[low], found[high] = found[high], found[low]
+	}
+	return found, err
+}
+
+// partings gives the distances at which a history is parted that has fewer commits than `length` and at least half of that.
+func partings(length int) (distances []int) {
+	step := commitsAtOnce
+	for step*mostParts < length {
+		step *= 2
+	}
+	for distance := step; distance < length; distance += step {
+		distances = append(distances, distance)
+	}
+	return distances
+}
+
+// ancestors gives the ancestors by first parents at these distances, up to the first distance at which there is none.
+func (t Tenant) ancestors(ctx context.Context, of Name, distances []int) (found []Name, err error) {
+	queries := make([]string, len(distances))
+	for at, distance := range distances {
+		queries[at] = fmt.Sprintf("rev-parse %v~%d", of, distance)
+	}
+	replies, errs, err := t.AskAll(ctx, queries)
+	for at := 0; err == nil && at < len(replies) && errs[at] == nil; at++ {
+		name, ok := ParseName(string(bytes.TrimSuffix(replies[at], []byte("\n"))))
+		if !ok {
+			return nil, errAnswer
+		}
+		found = append(found, name)
+	}
+	return found, err
+}
+
+// missing asks the child once.
+func (t Tenant) missing(ctx context.Context, wants, haves []Name) (Listing, error) {
 	body := binary.BigEndian.AppendUint32(make([]byte, 0, 4+len(Name{})*(len(wants)+len(haves))), uint32(len(wants)))
 	body = appendNames(appendNames(body, wants), haves)
 	if len(body) > frames.LongestBody {
@@ -73,10 +158,10 @@ func appendNames(to []byte, names []Name) []byte {
 	return to
 }
 
-// entriesAtOnce is about how many bytes of entries are asked for at once: so few that short questions wait for them some milliseconds.
-const entriesAtOnce = 1 << 20
+// entriesAtOnce is about how many bytes of entries are asked for at once: so few that short questions wait for them a millisecond or two.
+const entriesAtOnce = 1 << 17
 
-// Entries calls `use` with the entries of a pack that has these objects, a megabyte or one object at a time; it asks for the next ones while
+// Entries calls `use` with the entries of a pack that has these objects, an eighth of a megabyte or one object at a time; it asks for the next ones while
 // `use` has those before. An object that the tenant has not gives ErrMissing; an error of `use` ends the call and is given back.
 func (t Tenant) Entries(ctx context.Context, objects Listing, use func(entries []byte) error) error {
 	ctx, stop := context.WithCancel(ctx)

@@ -88,6 +88,112 @@ func TestMissingAndEntries(t *testing.T) {
 	}
 }
 
+// long makes a tenant whose main has `count` commits by first parents, of which every hundredth merges a commit of another branch. Each commit
+// changes one of ten files.
+func long(t *testing.T, p *Pool, name string, count int) (it Tenant, tip Name) {
+	it = tenant(t, p, name)
+	err := it.Push(background, agree, func(s *Stream) (err error) {
+		for at := 1; at <= count; at++ {
+			fmt.Fprintf(s, "commit refs/heads/side\ncommitter a <a@b> %d +0000\ndata 0\nM 644 inline side\ndata 4\n%04d\n", at, at)
+			fmt.Fprintf(s, "commit refs/heads/main\nmark :%d\ncommitter a <a@b> %d +0000\ndata 0\n", at, at)
+			if at%100 == 0 {
+				s.WriteString("merge refs/heads/side\n")
+			}
+			fmt.Fprintf(s, "M 644 inline dir/f%d\ndata 4\n%04d\n", at%10, at%1000)
+		}
+		tip, err = s.Name(fmt.Sprintf(":%d", count))
+		return err
+	})
+	if err != nil {
+		t.Fatal(err)
+	}
+	return it, tip
+}
+
+func TestALongHistoryIsListedInParts(t *testing.T) {
+	it, tip := long(t, pool(t, 0), "acme/site", 3*commitsAtOnce+7)
+	points, err := it.points(background, tip)
+	if err != nil || len(points) != 3 {
+		t.Fatal(len(points), err)
+	}
+	whole, err := it.missing(background, []Name{tip}, nil)
+	if err != nil {
+		t.Fatal(err)
+	}
+	parts, err := it.Missing(background, []Name{tip}, nil)
+	if err != nil || parts.Len() != whole.Len() {
+		t.Fatal(parts.Len(), whole.Len(), err)
+	}
+	at := places(parts)
+	for i := 0; i < whole.Len(); i++ {
+		if _, has := at[whole.Name(i)]; !has {
+			t.Fatal("the parts lack", whole.Name(i), whole.Kind(i))
+		}
+	}
+	goesUp(t, it, parts, at)
+}
+
+// places gives the place of each object of a listing.
+func places(l Listing) map[Name]int {
+	at := map[Name]int{}
+	for i := 0; i < l.Len(); i++ {
+		at[l.Name(i)] = i
+	}
+	return at
+}
+
+// goesUp asks that each commit of a listing comes after its tree and its parents.
+func goesUp(t *testing.T, it Tenant, l Listing, at map[Name]int) {
+	t.Helper()
+	var commits []Name
+	for i := 0; i < l.Len(); i++ {
+		if l.Kind(i) == Commit {
+			commits = append(commits, l.Name(i))
+		}
+	}
+	err := it.Objects(background, commits, func(o Object) error {
+		head, _, _ := bytes.Cut(o.Contents, []byte("author "))
+		for _, line := range bytes.Split(bytes.TrimSpace(head), []byte("\n")) {
+			_, digits, _ := bytes.Cut(line, []byte(" "))
+			name, ok := ParseName(string(digits))
+			if place, has := at[name]; !ok || !has || place >= at[o.Name] {
+				return fmt.Errorf("%s of %v comes at %d, and the commit at %d", line, o.Name, place, at[o.Name])
+			}
+		}
+		return nil
+	})
+	if err != nil {
+		t.Fatal(err)
+	}
+}
+
+func TestWhatHasNoLongHistoryIsListedAtOnce(t *testing.T) {
+	it, tip := long(t, pool(t, 0), "acme/site", commitsAtOnce)
+	blob, err := it.missing(background, []Name{tip}, nil)
+	if err != nil || blob.Kind(0) != Blob {
+		t.Fatal(err)
+	}
+	for _, of := range []Name{tip, blob.Name(0), {1}} {
+		if points, err := it.points(background, of); err != nil || len(points) != 0 {
+			t.Fatal(of, points, err)
+		}
+	}
+}
+
+func TestPartings(t *testing.T) {
+	for _, it := range []struct{ length, count, step int }{
+		{2 * commitsAtOnce, 1, commitsAtOnce},
+		{mostParts * commitsAtOnce, mostParts - 1, commitsAtOnce},
+		{2 * mostParts * commitsAtOnce, mostParts - 1, 2 * commitsAtOnce},
+		{1 << 30, mostParts - 1, 1 << 30 / mostParts},
+	} {
+		found := partings(it.length)
+		if len(found) != it.count || found[0] != it.step || found[it.count-1] != it.length-it.step {
+			t.Fatal(it, len(found), found[0])
+		}
+	}
+}
+
 func TestAnotherTenantsObjectsAreMissing(t *testing.T) {
 	p := pool(t, 0)
 	_, commit := edgy(t, p, "acme/site")

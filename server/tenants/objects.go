@@ -76,11 +76,11 @@ var errAnswer = errors.New("the program that keeps the pool gave an answer of an
 // Objects asks for objects in windows of bytes: about windowBytes of answers are with one caller at once, by the mean size of
 // those before.
 const (
-	windowBytes = 4 << 20
+	windowBytes = 1 << 19
 	windowNames = 64
 )
 
-// Objects calls `use` with each object, in the order of the names. It holds a window of a few megabytes at once, or one object
+// Objects calls `use` with each object, in the order of the names. It holds a window of half a megabyte at once, or one object
 // where that is larger, and asks for the next window while `use` has the one before. A name that the tenant has not gives
 // ErrMissing; an error of `use` ends the call and is given back.
 func (t Tenant) Objects(ctx context.Context, names []Name, use func(Object) error) error {

@@ -17,15 +17,24 @@ import (
 	"gitpoold/store"
 )
 
-// Pool has all tenants. It stands on one store: one child and one journal.
-type Pool struct {
-	store *store.Store
-	locks locks
-	usage *usage
+// Keeper keeps what tenants have: one store, or several of which each tenant is in one.
+type Keeper interface {
+	Ask(ctx context.Context, class child.Class, steps ...frames.Step) (store.Answers, error)
+	Begin(ctx context.Context, tenant string, form store.Form) (*store.Stream, error)
+	Bytes(tenant string) int64
+	Usages() []store.Usage
 }
 
-// New gives the tenants of a store. `quota` gives the bytes that a tenant may have, 0 for no limit.
-func New(s *store.Store, quota func(tenant string) int64) *Pool {
+// Pool has all tenants.
+type Pool struct {
+	store    Keeper
+	locks    locks
+	usage    *usage
+	listings listings
+}
+
+// New gives the tenants of a keeper. `quota` gives the bytes that a tenant may have, 0 for no limit.
+func New(s Keeper, quota func(tenant string) int64) *Pool {
 	return &Pool{store: s, usage: &usage{quota: quota, store: s}}
 }
 

@@ -2,8 +2,6 @@ package tenants
 
 import (
 	"errors"
-
-	"gitpoold/store"
 )
 
 // ErrFull says that the tenant has as many bytes as it may have, or would have with this push.
@@ -12,7 +10,7 @@ var ErrFull = errors.New("a limit is passed: the repository has as many bytes as
 // usage counts the bytes of tenants, for their quotas.
 type usage struct {
 	quota func(tenant string) int64
-	store *store.Store
+	store Keeper
 }
 
 // unlimited is the room of a tenant without a quota.

@@ -1,0 +1,110 @@
+package tenants
+
+import (
+	"context"
+	"errors"
+	"testing"
+	"time"
+)
+
+// made is what a call of share gave.
+type made struct {
+	listing Listing
+	err     error
+}
+
+// sharing asks for a listing of one key from a goroutine of its own.
+func sharing(ctx context.Context, l *listings, list func(context.Context) (Listing, error)) <-chan made {
+	told := make(chan made, 1)
+	go func() {
+		listing, err := l.share(ctx, "key", list)
+		told <- made{listing, err}
+	}()
+	return told
+}
+
+// waitFor waits until so many callers wait for the listing of the key.
+func waitFor(l *listings, count int) {
+	for found := -1; found != count; time.Sleep(time.Millisecond) {
+		l.mutex.Lock()
+		if it := l.made["key"]; it != nil {
+			found = it.waiting
+		}
+		l.mutex.Unlock()
+	}
+}
+
+func TestFetchesShareAListing(t *testing.T) {
+	var l listings
+	one := Listing{}.With(Name{1}, Blob, 1)
+	begun, goOn := make(chan struct{}), make(chan struct{})
+	first := sharing(background, &l, func(context.Context) (Listing, error) { close(begun); <-goOn; return one, nil })
+	<-begun
+	second := sharing(background, &l, func(context.Context) (Listing, error) { return nil, errors.New("asked twice") })
+	waitFor(&l, 2)
+	close(goOn)
+	for _, told := range []<-chan made{first, second} {
+		if it := <-told; it.err != nil || it.listing.Len() != 1 {
+			t.Fatal(it)
+		}
+	}
+	if it := <-sharing(background, &l, func(context.Context) (Listing, error) { return nil, nil }); it.err != nil || it.listing.Len() != 0 {
+		t.Fatal("a listing stays after it was made", it)
+	}
+}
+
+func TestASharedListingOutlivesWhoBeganIt(t *testing.T) {
+	var l listings
+	begun, goOn := make(chan struct{}), make(chan struct{})
+	list := func(ctx context.Context) (Listing, error) { close(begun); <-goOn; return nil, ctx.Err() }
+	ctx, stop := context.WithCancel(background)
+	first := sharing(ctx, &l, list)
+	<-begun
+	second := sharing(background, &l, list)
+	waitFor(&l, 2)
+	stop()
+	if it := <-first; it.err != context.Canceled {
+		t.Fatal(it)
+	}
+	close(goOn)
+	if it := <-second; it.err != nil {
+		t.Fatal(it)
+	}
+}
+
+func TestAListingForNobodyEnds(t *testing.T) {
+	var l listings
+	ended := make(chan error)
+	begun := make(chan struct{})
+	ctx, stop := context.WithCancel(background)
+	told := sharing(ctx, &l, func(ctx context.Context) (Listing, error) {
+		close(begun)
+		<-ctx.Done()
+		ended <- ctx.Err()
+		return nil, ctx.Err()
+	})
+	<-begun
+	stop()
+	if it := <-told; it.err != context.Canceled {
+		t.Fatal(it)
+	}
+	if err := <-ended; err != context.Canceled {
+		t.Fatal(err)
+	}
+}
+
+func TestAFaultOfASharedListingIsItsFirstCallersAlone(t *testing.T) {
+	var l listings
+	begun, goOn := make(chan struct{}), make(chan struct{})
+	first := sharing(background, &l, func(context.Context) (Listing, error) { close(begun); <-goOn; return nil, ErrMissing })
+	<-begun
+	second := sharing(background, &l, func(context.Context) (Listing, error) { return Listing{}.With(Name{2}, Blob, 1), nil })
+	waitFor(&l, 2)
+	close(goOn)
+	if it := <-first; it.err != ErrMissing {
+		t.Fatal(it)
+	}
+	if it := <-second; it.err != nil || it.listing.Len() != 1 {
+		t.Fatal(it)
+	}
+}
