@@ -19,9 +19,8 @@ from __future__ import annotations
 
 import ctypes
 import os
-import threading
 from ctypes import POINTER, byref, c_bool, c_char_p, c_size_t, c_uint32, c_uint64, c_void_p
-from typing import Any, Callable, Dict, Iterable, Iterator, Optional, Sequence, Tuple
+from typing import Any, Callable, Dict, Iterable, Iterator, List, Optional, Sequence, Tuple
 
 from gitpool_calls import Calls, pieces_of
 from gitpool_frames import AS_OPENED, LONGEST_BODY, PIECE, Answer, Fault, Kind, OutOfMemory, Step, Text, as_bytes
@@ -40,6 +39,16 @@ _LONGEST_NAME = 64
 
 # How many bytes of a reply are read at once; most have fewer.
 _ROOM = 65_536
+
+
+class _Lengths(Dict[int, c_size_t]):
+    """Lengths as values of C. Those of short names and questions are made once."""
+
+    def __missing__(self, length: int) -> c_size_t:
+        return c_size_t(length)
+
+
+_LENGTHS = _Lengths((it, c_size_t(it)) for it in range(256))
 
 
 class _Handle(ctypes.Structure):
@@ -111,6 +120,13 @@ def _typed(library: ctypes.CDLL) -> ctypes.CDLL:
     return library
 
 
+def _plain(library: ctypes.CDLL, name: str) -> Any:
+    """A call that is given values of C and bytes, which ctypes passes faster as they are than by the types of what a call takes."""
+    call = library[name]
+    call.restype = _CALLS[name][0]
+    return call
+
+
 class Service(Calls):
     """A service over a pool file in this process, as a context manager.
 
@@ -128,7 +144,8 @@ class Service(Calls):
                  own_run: bool = False, dies_with_us: bool = False):
         del program, own_run, dies_with_us
         self._ended = True
-        self._in_use = threading.Lock()
+        # One entry: the call that takes it has the service until it puts it back. A list does that in a quarter of the time of a lock.
+        self._turn: List[None] = [None]
         self._library, self._holding = _library()
         self._service, self._reply = _Handle(), _Handle()
         # (Any: a slice of it is bytes)
@@ -142,10 +159,11 @@ class Service(Calls):
             raise
 
     def _bind(self) -> None:
-        """Keeps what each question needs, so that none looks it up again."""
-        self._at, self._reply_at, self._room_at = (ctypes.addressof(it) for it in (self._service, self._reply, self._room))
-        self._ask_call, self._read_call = self._holding.gitpool_ask, self._holding.gitpool_reply_read
-        self._acquire, self._release = self._in_use.acquire, self._in_use.release
+        """Keeps what each question needs, so that none looks it up or makes it again."""
+        self._at, self._reply_at, self._room_at = (c_void_p(ctypes.addressof(it)) for it in (self._service, self._reply, self._room))
+        self._from, self._room_length = c_size_t(0), c_size_t(_ROOM)
+        self._ask_call, self._read_call = (_plain(self._holding, it) for it in ("gitpool_ask", "gitpool_reply_read"))
+        self._take_turn, self._give_turn = self._turn.pop, self._turn.append
 
     @staticmethod
     def _take(pool: PathLike, read_only: bool) -> PoolFile:
@@ -192,14 +210,16 @@ class Service(Calls):
         try:
             return self._taken(step)
         finally:
-            self._release()
+            self._give_turn(None)
 
     def _begin(self) -> None:
         """Begins a call, which has to release the service at its end."""
-        if not self._acquire(False):
-            raise ServiceError(0, "another thread uses the service")
+        try:
+            self._take_turn()
+        except IndexError:
+            raise ServiceError(0, "another thread uses the service") from None
         if self._ended:
-            self._release()
+            self._give_turn(None)
             raise ServiceError(0, "the service was closed")
 
     def _taken(self, step: Step) -> Answer:
@@ -234,13 +254,13 @@ class Service(Calls):
 
     def _replied(self) -> bytes:
         """The bytes of the last reply."""
-        size: int = self._read_call(self._reply_at, 0, self._room_at, _ROOM)
+        size: int = self._read_call(self._reply_at, self._from, self._room_at, self._room_length)
         found: bytes = self._room[:size]
         return found if size < _ROOM else self._whole()
 
     def _whole(self) -> bytes:
         whole = ctypes.create_string_buffer(self._library.gitpool_reply_length(self._reply_at))
-        self._read_call(self._reply_at, 0, ctypes.addressof(whole), len(whole))
+        self._library.gitpool_reply_read(self._reply_at, 0, ctypes.addressof(whole), len(whole))
         return whole.raw
 
     # (the steps of which there are many, without a Step)
@@ -254,25 +274,27 @@ class Service(Calls):
             number = self._library.gitpool_feed(self._at, name, len(name), data, len(data), self._reply_at)
             return self._answer(number).check() if number else self._replied()
         finally:
-            self._release()
+            self._give_turn(None)
 
     def ask(self, tenant: Text, query: Text) -> bytes:
         """The answer to a query (QUERIES in gitpool(1)) about the tenant's last checkpoint. Raises Fault: 15, 16, 17, 25, 32, 40 or 41."""
         name = tenant if isinstance(tenant, bytes) else as_bytes(tenant)
         text = query if isinstance(query, bytes) else as_bytes(query)
-        if not self._acquire(False):
-            self._begin()
+        try:
+            self._take_turn()
+        except IndexError:
+            raise ServiceError(0, "another thread uses the service") from None
         try:
             if self._ended:
                 raise ServiceError(0, "the service was closed")
-            number = self._ask_call(self._at, name, len(name), text, len(text), self._reply_at)
+            number = self._ask_call(self._at, name, _LENGTHS[len(name)], text, _LENGTHS[len(text)], self._reply_at)
             if number:
                 return self._answer(number).check()
-            size = self._read_call(self._reply_at, 0, self._room_at, _ROOM)
+            size = self._read_call(self._reply_at, self._from, self._room_at, self._room_length)
             found: bytes = self._room[:size]
             return found if size < _ROOM else self._whole()
         finally:
-            self._release()
+            self._give_turn(None)
 
     def export(self, tenant: Text) -> bytes:
         """The tenant's repository as a stream of git-fast-import(1). Raises Fault 25 where its refs are too many."""
@@ -355,7 +377,7 @@ class Service(Calls):
             answer = self._take_save(Step(Kind.SAVE))
         finally:
             self._give_back()
-            self._release()
+            self._give_turn(None)
         if answer.status:
             number = answer.value if answer.status == 1 else _OUT_OF_MEMORY
             raise ServiceError(4 if number == 68 else 5, f"nothing was saved: {Fault(number).meaning}", number)
@@ -367,7 +389,7 @@ class Service(Calls):
             try:
                 self._give_back()
             finally:
-                self._release()
+                self._give_turn(None)
 
     def _give_back(self) -> None:
         self._ended = True

@@ -15,7 +15,8 @@ pub struct ReplyHandle(ffi::Reply);
 /// A list of sizes that is filled.
 pub struct SizesHandle(ffi::Sizes);
 
-// Safety: see the crate's documentation, "Threads".
+// Safety: each owns its memory alone, and no call uses anything of a thread's. What of that is proved, the crate's documentation says
+// ("Threads").
 unsafe impl Send for ServiceHandle {}
 unsafe impl Send for ReplyHandle {}
 
@@ -114,14 +115,25 @@ impl ReplyHandle {
         unsafe { ffi::gitpool_reply_items(&mut self.0) }
     }
 
-    /// Appends the bytes of the reply.
+    /// Appends the bytes of the reply. A vector that had other replies before mostly has room for them; then one call is enough.
     pub fn append_to(&mut self, out: &mut Vec<u8>) {
-        let length = unsafe { ffi::gitpool_reply_length(&mut self.0) };
-        out.reserve(length);
+        let before = out.len();
+        if before < out.capacity() {
+            self.append_from(0, out);
+        }
+        if out.len() == out.capacity() {
+            let (length, read) = (unsafe { ffi::gitpool_reply_length(&mut self.0) }, out.len() - before);
+            out.reserve(length - read);
+            self.append_from(read, out);
+        }
+    }
+
+    // Appends the bytes of the reply from this one on, as many as there is room for.
+    fn append_from(&mut self, from: usize, out: &mut Vec<u8>) {
         let room = out.spare_capacity_mut();
-        // Safety: there is room for `length` bytes, and the call says how many of them it wrote.
+        // Safety: the room has this length, and the call says how many bytes of it it wrote.
         unsafe {
-            let written = ffi::gitpool_reply_read(&mut self.0, 0, room.as_mut_ptr().cast(), length);
+            let written = ffi::gitpool_reply_read(&mut self.0, from, room.as_mut_ptr().cast(), room.len());
             out.set_len(out.len() + written);
         }
     }

@@ -29,12 +29,16 @@
 //!
 //! A [`Service`] is `Send` and not `Sync`: it may be moved to another thread, and one thread at a time uses it.
 //!
-//! That it may be moved is **not proved**. The prover knows no threads, so no clause of the library speaks of them. It rests on this:
+//! Proved is that a call reads and writes the memory of its handles and of the slices that it is given, and beside it constants. A handle owns it
+//! alone: nothing in it is lent to another handle, or counted (`holds` in crates/gitpool_c/specs/Held.antt). So calls of two services never meet.
+//!
+//! That a service may be moved is **not proved**. The prover knows no threads, so no clause of the library speaks of them. It rests on this:
 //!
 //! - The archive has no thread-local variable, and no static one that is written. The one byte outside of its constants is of the kit's
 //!   allocator, and only its address is used, for an allocation of no bytes. `bindings/check` looks at the sections and at that byte.
-//! - All that a service owns is memory of `malloc`, `realloc` and `free`, and the C library lets one thread free what another one allocated.
-//! - Two services have no memory in common.
+//! - The library takes memory by `malloc`, `realloc` and `free` alone. Several threads may call these at once, and one may free what another
+//!   one allocated.
+//! - Each way in which Rust moves a value to another thread shows that thread all that was written before.
 //!
 //! ```
 //! let mut service = gitpool::Service::new().unwrap();

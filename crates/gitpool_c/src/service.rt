@@ -65,7 +65,7 @@ pub extern "C" fn gitpool_load(alloc: Global, service: &mut Handle, file: &[u8])
     }
 }
 
-// The bytes of the pool file of a service. A vector refuses a write only for want of memory.
+// The bytes of the pool file of a service. A vector refuses a write only if there is no memory.
 fn file_of(alloc: Global, service: &Service<Sha1Naming>) -> Result<Vec<u8>, Memory>
     ensures { IfOk result (λ bytes. bytes.items ≡ file_text sha1 (saved_of service.now)) }
 {
