@@ -8,7 +8,7 @@ use Rattle.git_model.specs.Repository.{Object, Repository, with_object}
 use Rattle.tenant_tables.specs.Adding.{store_fault}
 use Rattle.stream_grammar.specs.Acts.{Wait, Object as ObjectAct}
 use Rattle.stream_grammar.specs.Acts.{Blob}
-use Rattle.stream_state.specs.Marks.{room_for, with_mark}
+use Rattle.stream_parts.specs.Marks.{room_for, with_mark}
 use Rattle.import_session.specs.Meaning.{after_act}
 use Rattle.stream_commands.specs.Objects.{object_stored}
 use Rattle.stream_commands.specs.Workspace.{Workspace, quiet}

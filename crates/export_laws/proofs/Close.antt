@@ -10,15 +10,15 @@ use Rattle.git_model.specs.Repository.{Object, Repository}
 use Rattle.open_commits.specs.declared.fault.Fault.{Fault as CommitFault}
 use Rattle.open_commits.specs.Ends.{Closed, closed}
 use Rattle.open_commits.specs.OpenCommit.{OpenCommit}
-use Rattle.stream_state.specs.declared.branches.Tip.{Tip}
-use Rattle.stream_state.specs.declared.branches.Tip.TheVariants.{At}
-use Rattle.stream_state.specs.declared.fault.Fault.{Fault}
-use Rattle.stream_state.specs.Branches.{with_branch, Branches}
+use Rattle.stream_parts.specs.declared.branches.Tip.{Tip}
+use Rattle.stream_parts.specs.declared.branches.Tip.TheVariants.{At}
+use Rattle.stream_parts.specs.declared.fault.Fault.{Fault}
+use Rattle.stream_parts.specs.Branches.{with_branch, Branches}
 use Rattle.import_session.specs.Commits.{closed_at, closed_where}
-use Rattle.stream_state.specs.Faults.{and_then}
+use Rattle.stream_parts.specs.Faults.{and_then}
 use Rattle.stream_commands.specs.Faults.{changed_or}
-use Rattle.stream_state.specs.Marks.{room_for, with_mark}
-use Rattle.stream_state.specs.OpenCommand.{Changes}
+use Rattle.stream_parts.specs.Marks.{room_for, with_mark}
+use Rattle.stream_parts.specs.OpenCommand.{Changes}
 use Rattle.stream_commands.specs.Workspace.{Workspace, with_command}
 use Rattle.export_text.specs.ExportActs.{number_of}
 use Rattle.export_text.specs.ExportItems.{scratch}

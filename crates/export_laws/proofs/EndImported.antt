@@ -7,7 +7,7 @@ use Rattle.stream_lex.specs.Items.{Reading}
 use Rattle.stream_grammar.specs.Commands.{Done, Parsing, commands, top}
 use Rattle.import_session.specs.Sound.{IsSoundRepository}
 use Rattle.import_session.specs.Stream.{Outcome, begun, carried, finished}
-use Rattle.stream_state.specs.Tags.{tag_limit}
+use Rattle.stream_parts.specs.Tags.{tag_limit}
 use Rattle.stream_commands.specs.Workspace.{opened}
 use Rattle.export_text.specs.Export.{export_items, export_text}
 use Rattle.export_text.specs.ExportActs.{AsksFor, all_ref_acts, export_acts, removal_acts}

@@ -15,7 +15,7 @@ use Rattle.git_names.specs.Naming.{AnswersNames}
 use Rattle.tenant_tables.specs.Sums.{TreesFit}
 use Rattle.stream_grammar.specs.Commands.{Done}
 use Rattle.import_session.specs.Sound.{IsSound}
-use Rattle.stream_state.specs.Tags.{tag_limit}
+use Rattle.stream_parts.specs.Tags.{tag_limit}
 use Rattle.export_text.specs.ExportActs.{acts_of_object}
 use Rattle.export_text.specs.Reached.{reached_tags}
 use Rattle.export_laws.specs.Leaving.{Leaves, nothing}

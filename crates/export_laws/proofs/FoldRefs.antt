@@ -22,8 +22,8 @@ use Rattle.git_model.specs.Repository.{Object, Repository}
 use Rattle.commit_walk.proofs.Orders.{in_order_members}
 use Rattle.file_maps.proofs.Apart.{both_true}
 use Rattle.file_maps.proofs.Puts.{T-true}
-use Rattle.stream_state.specs.Checkpoints.{by_head, by_tags}
-use Rattle.stream_state.specs.Tags.{PendingTags}
+use Rattle.stream_parts.specs.Checkpoints.{by_head, by_tags}
+use Rattle.stream_parts.specs.Tags.{PendingTags}
 use Rattle.export_text.specs.Reached.{is_exportable, ref_of_tag, reached_objects, reached_tags, tag_refs}
 use Rattle.export_laws.specs.Told.{tags_of}
 use Rattle.export_laws.proofs.RefsHeld.{bytes-are, target-set}

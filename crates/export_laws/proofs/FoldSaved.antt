@@ -10,13 +10,13 @@ use Rattle.git_model.specs.Repository.{Repository}
 use Rattle.stream_grammar.specs.declared.act.ControlCommand.TheVariants as control
 use Rattle.stream_grammar.specs.Acts.{Ref, Control}
 use Rattle.stream_grammar.specs.Acts.{Reset}
-use Rattle.stream_state.specs.declared.branches.Tip.TheVariants.{Unborn}
-use Rattle.stream_state.specs.Checkpoints.{by_head, fit}
+use Rattle.stream_parts.specs.declared.branches.Tip.TheVariants.{Unborn}
+use Rattle.stream_parts.specs.Checkpoints.{by_head, fit}
 use Rattle.stream_commands.specs.Checkpoints.{checkpointed, saved_refs}
 use Rattle.import_session.specs.Meaning.{after_act}
 use Rattle.stream_commands.specs.Controls.{controlled}
-use Rattle.stream_state.specs.Tags.{PendingTags}
-use Rattle.stream_state.specs.OpenCommand as open_command
+use Rattle.stream_parts.specs.Tags.{PendingTags}
+use Rattle.stream_parts.specs.OpenCommand as open_command
 use Rattle.stream_commands.specs.Workspace.{Workspace, quiet}
 use Rattle.export_text.specs.ExportActs.{saving_acts}
 use Rattle.export_text.specs.ExportItems.{scratch}

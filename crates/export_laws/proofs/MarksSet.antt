@@ -11,7 +11,7 @@ use Rattle.git_model.specs.References.{place_of, object_at}
 use Rattle.git_model.specs.Repository.{Object, object_named}
 use Rattle.git_model.proofs.Places.{stands_at}
 use Rattle.stream_grammar.specs.declared.marked_object.MarkedObject.{MarkedObject}
-use Rattle.stream_state.specs.Marks.{as_marked, found_mark, has_room, mark_limit, marked_name, room_for, with_mark, Marks}
+use Rattle.stream_parts.specs.Marks.{as_marked, found_mark, has_room, mark_limit, marked_name, room_for, with_mark, Marks}
 use Rattle.export_text.specs.ExportActs.{number_of}
 use Rattle.export_laws.specs.Told.{StandsFor}
 

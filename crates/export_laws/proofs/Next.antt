@@ -6,8 +6,8 @@ use Rattle.std.proofs.lemmas.List.Elements.{filter-append}
 use Rattle.git_model.specs.Content.{Content}
 use Rattle.git_model.specs.Reach.{is_referred_to}
 use Rattle.git_model.specs.Repository.{Object, Repository, object_named}
-use Rattle.stream_state.specs.Marks.{with_mark}
-use Rattle.stream_state.specs.Tags.{PendingTags}
+use Rattle.stream_parts.specs.Marks.{with_mark}
+use Rattle.stream_parts.specs.Tags.{PendingTags}
 use Rattle.export_text.specs.ExportActs.{number_of}
 use Rattle.export_text.specs.Reached.{is_tag, ref_of_tag}
 use Rattle.export_laws.specs.Order.{names_with, stored_with, with_named}

@@ -22,7 +22,7 @@ use Rattle.open_commits.specs.Faults.{and_then as commit_then, or_fault}
 use Rattle.open_commits.specs.OpenCommit.{OpenCommit}
 use Rattle.open_commits.specs.Parents.{changed_to}
 use Rattle.import_session.specs.Changes.{files_changed}
-use Rattle.stream_state.specs.Faults.{and_then}
+use Rattle.stream_parts.specs.Faults.{and_then}
 use Rattle.stream_commands.specs.Faults.{changed_or}
 use Rattle.import_session.specs.Meaning.{after_act}
 use Rattle.stream_commands.specs.Workspace.{Workspace, quiet}

@@ -10,19 +10,19 @@ use Rattle.stream_grammar.specs.Acts.{Wait, Commit as CommitAct, Ref}
 use Rattle.stream_grammar.specs.Acts.{Begin, Author, Committer, Encoding, Message}
 use Rattle.stream_grammar.specs.Acts.{Reset}
 use Rattle.open_commits.specs.OpenCommit.{Header, OpenCommit as Open, begun}
-use Rattle.stream_state.specs.declared.branches.Tip.{Tip}
-use Rattle.stream_state.specs.declared.branches.Tip.TheVariants.{Unborn, Deleted, At}
-use Rattle.stream_state.specs.declared.fault.Fault.{Fault}
-use Rattle.stream_state.specs.declared.headers.CommitHeader.{CommitHeader}
-use Rattle.stream_state.specs.Branches.{branch_set, has_branch_room, ref_meant, tip_commit, tip_for, Branches}
+use Rattle.stream_parts.specs.declared.branches.Tip.{Tip}
+use Rattle.stream_parts.specs.declared.branches.Tip.TheVariants.{Unborn, Deleted, At}
+use Rattle.stream_parts.specs.declared.fault.Fault.{Fault}
+use Rattle.stream_parts.specs.declared.headers.CommitHeader.{CommitHeader}
+use Rattle.stream_parts.specs.Branches.{branch_set, has_branch_room, ref_meant, tip_commit, tip_for, Branches}
 use Rattle.import_session.specs.Commits.{begun_from, commit_said}
-use Rattle.stream_state.specs.Faults.{and_then}
+use Rattle.stream_parts.specs.Faults.{and_then}
 use Rattle.stream_commands.specs.Faults.{changed_or}
 use Rattle.import_session.specs.Meaning.{after_act}
 use Rattle.stream_commands.specs.Refs.{ref_set}
 use Rattle.import_session.specs.Sound.{IsStreamBranch}
-use Rattle.stream_state.specs.Headers.{new_commit_header}
-use Rattle.stream_state.specs.OpenCommand as open_command
+use Rattle.stream_parts.specs.Headers.{new_commit_header}
+use Rattle.stream_parts.specs.OpenCommand as open_command
 use Rattle.stream_commands.specs.Workspace.{Workspace, quiet, with_command}
 use Rattle.export_text.specs.ExportActs.{asks, asks_if, encoding_act}
 use Rattle.export_text.specs.ExportItems.{scratch}

@@ -19,13 +19,13 @@ use Rattle.stream_grammar.specs.Acts.{From, Merge}
 use Rattle.stream_grammar.specs.Names.{Marked}
 use Rattle.open_commits.specs.OpenCommit.{OpenCommit}
 use Rattle.open_commits.specs.Parents.{merged, started_from}
-use Rattle.stream_state.specs.declared.fault.Fault.{Fault}
+use Rattle.stream_parts.specs.declared.fault.Fault.{Fault}
 use Rattle.import_session.specs.Commits.{commit_said}
 use Rattle.stream_commands.specs.CommitIshes.{commit_in}
-use Rattle.stream_state.specs.Faults.{and_then, resolved_or}
+use Rattle.stream_parts.specs.Faults.{and_then, resolved_or}
 use Rattle.stream_commands.specs.Faults.{changed_or}
 use Rattle.import_session.specs.Meaning.{after_act}
-use Rattle.stream_state.specs.OpenCommand.{Changes}
+use Rattle.stream_parts.specs.OpenCommand.{Changes}
 use Rattle.stream_commands.specs.Workspace.{Workspace, quiet, with_command}
 use Rattle.export_text.specs.ExportActs.{merges, number_of, parent_acts}
 use Rattle.export_laws.specs.Leaving.{Leaves, nothing}

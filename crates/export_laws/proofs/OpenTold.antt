@@ -21,12 +21,12 @@ use Rattle.stream_grammar.specs.Acts.{Wait, Commit as CommitAct}
 use Rattle.stream_grammar.specs.Acts.{Begin, Author, Committer, Message}
 use Rattle.stream_grammar.specs.Commands.{Done}
 use Rattle.open_commits.specs.OpenCommit.{Header, OpenCommit as Open}
-use Rattle.stream_state.specs.Marks.{as_marked}
-use Rattle.stream_state.specs.declared.branches.Tip.{Tip}
-use Rattle.stream_state.specs.declared.branches.Tip.TheVariants.{Unborn}
-use Rattle.stream_state.specs.Branches.{tip_commit, tip_for}
+use Rattle.stream_parts.specs.Marks.{as_marked}
+use Rattle.stream_parts.specs.declared.branches.Tip.{Tip}
+use Rattle.stream_parts.specs.declared.branches.Tip.TheVariants.{Unborn}
+use Rattle.stream_parts.specs.Branches.{tip_commit, tip_for}
 use Rattle.import_session.specs.Sound.{IsSound}
-use Rattle.stream_state.specs.OpenCommand as open_command
+use Rattle.stream_parts.specs.OpenCommand as open_command
 use Rattle.stream_commands.specs.Workspace.{Workspace}
 use Rattle.export_text.specs.ExportActs.{asks, asks_if, encoding_act, file_acts, fresh_acts, head_acts_of, number_of, parent_acts}
 use Rattle.export_text.specs.ExportItems.{scratch}

@@ -5,10 +5,10 @@ use Rattle.std.specs.Map.{keys_of}
 use Rattle.std.specs.Str.{bytes_eq}
 use Rattle.std.proofs.lemmas.Bool.{cases_Bool, false≢true, or_cases, or_left, or_right}
 use Rattle.git_model.specs.RefStore.{RefStore, target_of}
-use Rattle.stream_state.specs.declared.branches.Tip.{Tip}
-use Rattle.stream_state.specs.declared.branches.Tip.TheVariants.{Unborn, Deleted, At}
-use Rattle.stream_state.specs.Branches.{tip_of, with_branch, Branches}
-use Rattle.stream_state.specs.Tags.{PendingTags}
+use Rattle.stream_parts.specs.declared.branches.Tip.{Tip}
+use Rattle.stream_parts.specs.declared.branches.Tip.TheVariants.{Unborn, Deleted, At}
+use Rattle.stream_parts.specs.Branches.{tip_of, with_branch, Branches}
+use Rattle.stream_parts.specs.Tags.{PendingTags}
 use Rattle.file_maps.proofs.Listing.{all-append}
 use Rattle.export_laws.proofs.RefsBranches.{placed-distinct}
 use Rattle.export_laws.proofs.RefsHeld.{bytes-are, same-bytes}

@@ -8,14 +8,14 @@ use Rattle.git_model.specs.GoodRepository.{AreObjects, AreRefs, refs_limit}
 use Rattle.git_model.specs.RefStore.{RefStore, listed_refs, target_of}
 use Rattle.git_model.specs.Repository.{Object, Repository}
 use Rattle.file_maps.proofs.Puts.{length-filter-le}
-use Rattle.stream_state.specs.declared.branches.Tip.{Tip}
-use Rattle.stream_state.specs.declared.branches.Tip.TheVariants.{Unborn, Deleted, At}
-use Rattle.stream_state.specs.Branches.{tip_of, Branches}
-use Rattle.stream_state.specs.Checkpoints.{by_head, by_tags, fit}
+use Rattle.stream_parts.specs.declared.branches.Tip.{Tip}
+use Rattle.stream_parts.specs.declared.branches.Tip.TheVariants.{Unborn, Deleted, At}
+use Rattle.stream_parts.specs.Branches.{tip_of, Branches}
+use Rattle.stream_parts.specs.Checkpoints.{by_head, by_tags, fit}
 use Rattle.stream_commands.specs.Checkpoints.{by_branches, checkpoint, checkpointed, kept_lines, saved_refs}
-use Rattle.stream_state.specs.Tags.{PendingTags}
+use Rattle.stream_parts.specs.Tags.{PendingTags}
 use Rattle.open_commits.specs.OpenCommit.{OpenCommit}
-use Rattle.stream_state.specs.StreamOf.{StreamOf}
+use Rattle.stream_parts.specs.StreamOf.{StreamOf}
 use Rattle.stream_commands.specs.Workspace.{Workspace, quiet}
 use Rattle.export_text.specs.ExportActs.{removal_acts}
 use Rattle.export_text.specs.ExportItems.{scratch}

@@ -5,12 +5,12 @@ use Rattle.std.specs.Str.{bytes_eq}
 use Rattle.std.proofs.lemmas.Bool.{cases_Bool, false≢true}
 use Rattle.git_model.specs.RefStore.{RefStore, target_of}
 use Rattle.stream_grammar.specs.Names.{Expression}
-use Rattle.stream_state.specs.declared.branches.Tip.TheVariants.{Unborn, Deleted}
+use Rattle.stream_parts.specs.declared.branches.Tip.TheVariants.{Unborn, Deleted}
 use Rattle.open_commits.specs.OpenCommit.{OpenCommit}
-use Rattle.stream_state.specs.Branches.{branch_limit, tip_of, with_branch, Branches}
-use Rattle.stream_state.specs.Tags.{PendingTags}
-use Rattle.stream_state.specs.OpenCommand as open_command
-use Rattle.stream_state.specs.OpenCommand.{OpenCommand}
+use Rattle.stream_parts.specs.Branches.{branch_limit, tip_of, with_branch, Branches}
+use Rattle.stream_parts.specs.Tags.{PendingTags}
+use Rattle.stream_parts.specs.OpenCommand as open_command
+use Rattle.stream_parts.specs.OpenCommand.{OpenCommand}
 use Rattle.stream_commands.specs.Workspace.{Workspace}
 use Rattle.export_text.specs.ExportActs.{removal_acts}
 use Rattle.export_laws.specs.Leaving.{Leaves, nothing}

@@ -7,18 +7,18 @@ use Rattle.git_model.specs.Repository.{Object}
 use Rattle.stream_grammar.specs.Acts.{Wait, Ref}
 use Rattle.stream_grammar.specs.Acts.{Reset, ResetFrom}
 use Rattle.stream_grammar.specs.Names.{CommitIsh, Marked, Expression}
-use Rattle.stream_state.specs.declared.branches.Tip.{Tip}
-use Rattle.stream_state.specs.declared.branches.Tip.TheVariants.{Unborn, Deleted, At}
+use Rattle.stream_parts.specs.declared.branches.Tip.{Tip}
+use Rattle.stream_parts.specs.declared.branches.Tip.TheVariants.{Unborn, Deleted, At}
 use Rattle.open_commits.specs.OpenCommit.{OpenCommit}
-use Rattle.stream_state.specs.Branches.{branch_limit, has_branch_room, ref_meant, tip_of, with_branch, Branches}
+use Rattle.stream_parts.specs.Branches.{branch_limit, has_branch_room, ref_meant, tip_of, with_branch, Branches}
 use Rattle.import_session.specs.Meaning.{after_act}
 use Rattle.stream_commands.specs.Refs.{is_zeros, ref_set, tip_from}
-use Rattle.stream_state.specs.Tags.{PendingTags}
-use Rattle.stream_state.specs.OpenCommand as open_command
-use Rattle.stream_state.specs.OpenCommand.{OpenCommand}
+use Rattle.stream_parts.specs.Tags.{PendingTags}
+use Rattle.stream_parts.specs.OpenCommand as open_command
+use Rattle.stream_parts.specs.OpenCommand.{OpenCommand}
 use Rattle.stream_commands.specs.Workspace.{Workspace, quiet, with_command}
-use Rattle.stream_state.specs.declared.fault.Fault.{Fault}
-use Rattle.stream_state.specs.Faults.{and_then}
+use Rattle.stream_parts.specs.declared.fault.Fault.{Fault}
+use Rattle.stream_parts.specs.Faults.{and_then}
 use Rattle.export_text.specs.ExportActs.{number_of, reset_acts}
 use Rattle.export_laws.specs.Leaving.{Leaves, nothing}
 use Rattle.export_laws.proofs.Acts.{asked}

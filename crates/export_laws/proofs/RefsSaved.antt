@@ -6,12 +6,12 @@ use Rattle.std.specs.Map.{keys_of}
 use Rattle.std.specs.Str.{bytes_eq}
 use Rattle.std.proofs.lemmas.Bool.{cases_Bool, false≢true}
 use Rattle.git_model.specs.RefStore.{RefStore, target_of, with_ref}
-use Rattle.stream_state.specs.declared.branches.Tip.{Tip}
-use Rattle.stream_state.specs.declared.branches.Tip.TheVariants.{Unborn, Deleted, At}
-use Rattle.stream_state.specs.Branches.{tip_of, Branches}
-use Rattle.stream_state.specs.Checkpoints.{by_tags}
+use Rattle.stream_parts.specs.declared.branches.Tip.{Tip}
+use Rattle.stream_parts.specs.declared.branches.Tip.TheVariants.{Unborn, Deleted, At}
+use Rattle.stream_parts.specs.Branches.{tip_of, Branches}
+use Rattle.stream_parts.specs.Checkpoints.{by_tags}
 use Rattle.stream_commands.specs.Checkpoints.{by_branches, kept_by, kept_lines, may_set, moves, saved_by}
-use Rattle.stream_state.specs.Tags.{PendingTags}
+use Rattle.stream_parts.specs.Tags.{PendingTags}
 use Rattle.stream_commands.specs.Workspace.{Workspace}
 use Rattle.export_laws.proofs.RefsBranches.{first-distinct, none-later}
 use Rattle.export_laws.proofs.RefsHeld.{bytes-are, target-removed, target-set}

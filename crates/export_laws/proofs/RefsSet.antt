@@ -18,13 +18,13 @@ use Rattle.git_model.specs.Tag.{Tag, tag_contents}
 use Rattle.git_model.specs.TagReading.{tag_read}
 use Rattle.tenant_tables.specs.Adding.{store_fault}
 use Rattle.stream_grammar.specs.Names.{Marked}
-use Rattle.stream_state.specs.declared.branches.Tip.TheVariants.{Unborn, Deleted, At}
+use Rattle.stream_parts.specs.declared.branches.Tip.TheVariants.{Unborn, Deleted, At}
 use Rattle.open_commits.specs.OpenCommit.{OpenCommit}
-use Rattle.stream_state.specs.Branches.{branch_limit, tip_of, with_branch, Branches}
-use Rattle.stream_state.specs.Marks.{as_marked, marked_name, Marks}
-use Rattle.stream_state.specs.Tags.{tag_limit, PendingTags}
-use Rattle.stream_state.specs.OpenCommand as open_command
-use Rattle.stream_state.specs.OpenCommand.{OpenCommand}
+use Rattle.stream_parts.specs.Branches.{branch_limit, tip_of, with_branch, Branches}
+use Rattle.stream_parts.specs.Marks.{as_marked, marked_name, Marks}
+use Rattle.stream_parts.specs.Tags.{tag_limit, PendingTags}
+use Rattle.stream_parts.specs.OpenCommand as open_command
+use Rattle.stream_parts.specs.OpenCommand.{OpenCommand}
 use Rattle.stream_commands.specs.Workspace.{Workspace}
 use Rattle.export_text.specs.ExportActs.{acts_of_ref, number_of, ref_acts, tag_acts}
 use Rattle.export_text.specs.Reached.{tag_ref}

@@ -6,7 +6,7 @@ use Rattle.git_names.specs.Naming.{AnswersNames}
 use Rattle.stream_grammar.specs.Acts.{Act}
 use Rattle.stream_grammar.specs.Commands.{Done}
 use Rattle.stream_grammar.specs.WellFormed.{IsWellFormed}
-use Rattle.stream_state.specs.declared.fault.Fault.{Fault}
+use Rattle.stream_parts.specs.declared.fault.Fault.{Fault}
 use Rattle.import_session.specs.Meaning.{after_act}
 use Rattle.import_session.specs.Sound.{IsSound}
 use Rattle.stream_commands.specs.Workspace.{Effect, Workspace, opened, quiet}

@@ -12,13 +12,13 @@ use Rattle.stream_grammar.specs.Acts.{Object as ObjectAct}
 use Rattle.stream_grammar.specs.Acts.{BeginTag, TagTarget, Tagger, Tag as TagCommand}
 use Rattle.stream_grammar.specs.Commands.{Done}
 use Rattle.stream_grammar.specs.Names.{Marked}
-use Rattle.stream_state.specs.declared.headers.TagHeader.{TagHeader}
-use Rattle.stream_state.specs.Marks.{marked_name, room_for, with_mark}
+use Rattle.stream_parts.specs.declared.headers.TagHeader.{TagHeader}
+use Rattle.stream_parts.specs.Marks.{marked_name, room_for, with_mark}
 use Rattle.import_session.specs.Meaning.{after_act}
 use Rattle.stream_commands.specs.Objects.{object_stored}
-use Rattle.stream_state.specs.Tags.{room_for_tag, tag_limit, tagged_kind}
-use Rattle.stream_state.specs.Headers.{new_tag_header}
-use Rattle.stream_state.specs.OpenCommand as open_command
+use Rattle.stream_parts.specs.Tags.{room_for_tag, tag_limit, tagged_kind}
+use Rattle.stream_parts.specs.Headers.{new_tag_header}
+use Rattle.stream_parts.specs.OpenCommand as open_command
 use Rattle.stream_commands.specs.Workspace.{Workspace, quiet, with_command}
 use Rattle.export_text.specs.ExportActs.{asks, asks_if, tagger_act, wait_if}
 use Rattle.export_text.specs.Reached.{tag_ref}

@@ -14,8 +14,8 @@ use Rattle.git_model.specs.Tag.{Tag, CanWriteTag, tag_contents}
 use Rattle.git_model.specs.TagReading.{tag_read}
 use Rattle.git_model.proofs.TagReadings.{tag_back}
 use Rattle.tenant_tables.specs.Adding.{store_fault}
-use Rattle.stream_state.specs.Marks.{with_mark}
-use Rattle.stream_state.specs.Tags.{tag_limit, PendingTags}
+use Rattle.stream_parts.specs.Marks.{with_mark}
+use Rattle.stream_parts.specs.Tags.{tag_limit, PendingTags}
 use Rattle.stream_commands.specs.Workspace.{Workspace}
 use Rattle.export_text.specs.ExportActs.{number_of, tag_acts}
 use Rattle.export_text.specs.Reached.{is_tag, reached_objects, reached_tags, tag_ref}

@@ -4,7 +4,7 @@ use Rattle.git_model.specs.GoodRepository.{AreObjects, AreRefs}
 use Rattle.git_model.specs.Repository.{Repository}
 use Rattle.git_names.specs.Naming.{AnswersNames}
 use Rattle.tenant_tables.specs.Sums.{TreesFit}
-use Rattle.stream_state.specs.Tags.{tag_limit}
+use Rattle.stream_parts.specs.Tags.{tag_limit}
 use Rattle.export_text.specs.ExportActs.{object_acts}
 use Rattle.export_text.specs.Reached.{is_exportable, reached_tags}
 use Rattle.export_laws.specs.Told.{nothing_told}

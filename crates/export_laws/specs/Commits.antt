@@ -7,7 +7,7 @@ use Rattle.open_commits.specs.OpenCommit.{Header, OpenCommit}
 use Rattle.export_text.specs.ExportActs.{number_of}
 use Rattle.export_text.specs.ExportItems.{scratch}
 use Rattle.stream_commands.specs.Workspace.{Workspace, with_command}
-use Rattle.stream_state.specs.OpenCommand.{Changes}
+use Rattle.stream_parts.specs.OpenCommand.{Changes}
 use Rattle.export_laws.specs.Told.{Told, workspace_of}
 
 -- What the lines before its message say: the commit is told on the scratch branch, with its mark,

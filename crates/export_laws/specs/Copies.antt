@@ -9,7 +9,7 @@ use Rattle.git_model.specs.TagReading.{tag_read}
 use Rattle.stream_lex.specs.Headers.{largest_data}
 use Rattle.export_text.specs.Limits.{FitsLine, FitsTag}
 use Rattle.export_text.specs.Reached.{is_exportable, reached_tags}
-use Rattle.stream_state.specs.Tags.{tag_limit}
+use Rattle.stream_parts.specs.Tags.{tag_limit}
 use Rattle.export_laws.specs.Order.{copied_objects}
 use Rattle.export_laws.specs.Told.{AreOf}
 use Rattle.export_laws.specs.Whole.{HasReached}

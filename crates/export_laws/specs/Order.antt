@@ -13,7 +13,7 @@ use Rattle.git_model.specs.References.{content_named}
 use Rattle.git_model.specs.StoredPath.{entries_of}
 use Rattle.export_text.specs.Reached.{reached_objects}
 -- Objects by their places in a repository.
-pub use Rattle.table_copies.specs.Copied.{objects_at}
+pub use Rattle.tenant_tables.specs.Copied.{objects_at}
 
 -- ---- which objects, by name
 

@@ -5,10 +5,10 @@ use Rattle.git_model.specs.RefStore.{target_of}
 use Rattle.git_model.specs.Repository.{Repository}
 use Rattle.export_text.specs.ExportItems.{scratch}
 use Rattle.export_text.specs.Reached.{tag_refs}
-use Rattle.stream_state.specs.declared.branches.Tip.TheVariants.{Unborn}
+use Rattle.stream_parts.specs.declared.branches.Tip.TheVariants.{Unborn}
 use Rattle.open_commits.specs.OpenCommit.{OpenCommit}
-use Rattle.stream_state.specs.OpenCommand.{Reset}
-use Rattle.stream_state.specs.StreamOf.{StreamOf}
+use Rattle.stream_parts.specs.OpenCommand.{Reset}
+use Rattle.stream_parts.specs.StreamOf.{StreamOf}
 use Rattle.stream_commands.specs.Workspace.{Workspace}
 use Rattle.export_laws.specs.Told.{Told}
 

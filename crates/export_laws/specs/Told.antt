@@ -12,12 +12,12 @@ use Rattle.git_model.specs.Repository.{Object, Repository, object_named}
 use Rattle.export_text.specs.ExportActs.{acts_of_object, number_of}
 use Rattle.export_text.specs.ExportItems.{scratch}
 use Rattle.export_text.specs.Reached.{is_tag, ref_of_tag}
-use Rattle.stream_state.specs.declared.branches.Tip.{Tip}
-use Rattle.stream_state.specs.Marks.{as_marked, Marks}
-use Rattle.stream_state.specs.Branches.{Branches}
-use Rattle.stream_state.specs.Tags.{PendingTags}
-use Rattle.stream_state.specs.OpenCommand.{Nothing}
-use Rattle.stream_state.specs.StreamOf.{StreamOf}
+use Rattle.stream_parts.specs.declared.branches.Tip.{Tip}
+use Rattle.stream_parts.specs.Marks.{as_marked, Marks}
+use Rattle.stream_parts.specs.Branches.{Branches}
+use Rattle.stream_parts.specs.Tags.{PendingTags}
+use Rattle.stream_parts.specs.OpenCommand.{Nothing}
+use Rattle.stream_parts.specs.StreamOf.{StreamOf}
 use Rattle.open_commits.specs.OpenCommit.{OpenCommit}
 use Rattle.stream_commands.specs.Workspace.{Workspace}
 use Rattle.export_laws.specs.Leaving.{Leaves}

@@ -18,7 +18,7 @@ ghost use Rattle.file_maps.specs.FileMap.{AreFiles, FileMap, listed};
 ghost use Rattle.file_maps.specs.GoodTrees.{IsRepository};
 ghost use Rattle.export_text.specs.Reached.{is_exportable, reached_tags};
 ghost use Rattle.import_session.specs.Sound.{IsSound, IsSoundRepository};
-ghost use Rattle.stream_state.specs.Tags.{tag_limit};
+ghost use Rattle.stream_parts.specs.Tags.{tag_limit};
 ghost use Rattle.stream_commands.specs.Workspace.{Workspace};
 ghost use Rattle.export_laws.specs.Copies.{CanBeCopied};
 ghost use Rattle.export_laws.specs.Ends.{AreRefsLeft, IsImported};

@@ -10,7 +10,7 @@ use Rattle.stream_lex.specs.Items.{Item, Tail, Rest, Failed, Reading}
 use Rattle.stream_lex.specs.Reading.{reading, walk}
 use Rattle.stream_lex.specs.Running.{more_of}
 use Rattle.stream_lex.proofs.Walks.{reading-append}
-use Rattle.stream_state.specs.declared.fault.Fault.{Fault}
+use Rattle.stream_parts.specs.declared.fault.Fault.{Fault}
 use Rattle.stream_commands.specs.Workspace.{opened}
 use Rattle.import_session.specs.Stream.{Running, Step, StreamStatus, Runs, Refused, Outcome, begun, after_reply, carried, going_on, step, at_tail, tail_outcome, last_checkpoint}
 use Rattle.tenant_stream.specs.Carrying.{outcome_after}

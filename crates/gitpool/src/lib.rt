@@ -46,7 +46,7 @@ pub use pool_file_format::{DigestState, Fault as PoolFault, Refusal, StreamingDi
 pub use pool_place::PoolPlace;
 pub use save_fault::SaveFault;
 pub use service_steps::{Answer, FrameFault, Reply, Request, SavedAs, ServiceFault, Step};
-pub use serving::serve;
+pub use serving::{serve, serve_noting};
 pub use single_import::{import_new, import_one};
 pub use sizing::sizes;
 pub use tenant_refs::Refs;

@@ -9,6 +9,10 @@ use std::io::{BufReader, ErrorKind, Read};
 // How many bytes of a pool file are read at once. More would copy large contents twice.
 const READ_AHEAD: usize = 32_768;
 
+// How a pool file begins that a save of this program writes: the eight bytes of the format, and its
+// version, 2.
+const SAVED_FRONT: [u8; 12] = *b"gitpool\n\0\0\0\x02";
+
 /// What a run begins with if there is no pool file.
 #[derive(Clone, Copy)]
 pub enum Missing {
@@ -45,6 +49,19 @@ fn load_of<R: Read>(
     reader: &mut Counted<R>,
 ) -> Result<Service<Sha1Naming>, RunFault> {
     Ok(Service::load(rt.alloc(), Sha1Naming, reader)?)
+}
+
+/// Whether the pool file is there, and of the version that a save writes.
+pub fn is_current(rt: &HostRuntime, pool: &str) -> bool {
+    match File::open(rt, pool) {
+        Ok(file) => begins_as_saved(file),
+        Err(_) => false,
+    }
+}
+
+fn begins_as_saved(mut file: File) -> bool {
+    let mut front = [0; SAVED_FRONT.len()];
+    file.read_exact(&mut front).is_ok() && front == SAVED_FRONT
 }
 
 /// Saves what every tenant has at its last checkpoint: the new file takes the place of the pool

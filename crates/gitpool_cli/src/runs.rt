@@ -4,7 +4,7 @@
 
 use crate::hosting::run_hosted;
 use crate::moves::{extract, merge};
-use crate::pools::{Missing, load, save};
+use crate::pools::{Missing, is_current, load, save};
 use crate::run_fault::RunFault;
 use gitpool::{Answer, Counted, Line, Service, Sha1Naming};
 use lock_files::LockFile;
@@ -42,7 +42,7 @@ pub fn run(rt: &HostRuntime, line: Line<'_>) -> Result<(), RunFault> {
 // A run that leaves the pool file as it is.
 fn run_to_read(rt: &HostRuntime, line: Line<'_>, pool: &str) -> Result<(), RunFault> {
     let mut service = load(rt, pool, Missing::Refused)?;
-    let outcome = carry_out(rt, &mut service, line);
+    let outcome = carry_out_call(rt, &mut service, line);
     leave(service);
     outcome
 }
@@ -79,26 +79,54 @@ fn load_and_save(
     }
 }
 
-// The service is saved even after frames, a stream or a call for a tenant were refused.
+// The service is saved even after frames, a stream or a call for a tenant were refused. Where frames
+// of Asks alone came, the pool file has what a save would write, unless it is of an older version.
 fn carry_out_and_save(
     rt: &HostRuntime,
     mut service: Service<Sha1Naming>,
     line: Line<'_>,
     new: &LockFile,
 ) -> Result<(), RunFault> {
-    let outcome = carry_out(rt, &mut service, line);
-    let saved = save(rt, &service, new);
+    let mut is_changed = !is_current(rt, new.locked_path());
+    let outcome = carry_out(rt, &mut service, line, &mut is_changed);
+    let saved = save_if(rt, &service, new, is_changed);
     leave(service);
     outcome.and(saved)
 }
 
+fn save_if(
+    rt: &HostRuntime,
+    service: &Service<Sha1Naming>,
+    new: &LockFile,
+    is_changed: bool,
+) -> Result<(), RunFault> {
+    if is_changed {
+        return save(rt, service, new);
+    }
+    new.remove(rt);
+    Ok(())
+}
+
+// `is_changed` is set unless only Asks came as frames.
 fn carry_out(
+    rt: &HostRuntime,
+    service: &mut Service<Sha1Naming>,
+    line: Line<'_>,
+    is_changed: &mut bool,
+) -> Result<(), RunFault> {
+    if let Line::Serve { .. } = line {
+        return serve(rt, service, is_changed);
+    }
+    *is_changed = true;
+    carry_out_call(rt, service, line)
+}
+
+fn carry_out_call(
     rt: &HostRuntime,
     service: &mut Service<Sha1Naming>,
     line: Line<'_>,
 ) -> Result<(), RunFault> {
     match line {
-        Line::Serve { .. } => serve(rt, service),
         Line::Import { tenant, .. } => import(rt, service, tenant.as_bytes()),
         Line::Ask { tenant, query, .. } => ask(rt, service, tenant.as_bytes(), query.as_bytes()),
         Line::Check { .. } => check(rt, service),
@@ -111,16 +139,20 @@ fn carry_out(
         Line::Extract { tenant, file, pool } => extract(rt, service, tenant, file, pool),
         Line::Merge { file, .. } => answered(merge(rt, service, file)?),
         Line::Pack { tenant, all, .. } => pack(rt, service, tenant.as_bytes(), all),
-        // `run_hosted` carries it out, over the lock file.
-        Line::Host { .. } => Ok(()),
+        // `carry_out` and `run_hosted` carry these out.
+        Line::Serve { .. } | Line::Host { .. } => Ok(()),
     }
 }
 
 // Answers frames of steps, up to the end of the input.
-fn serve(rt: &HostRuntime, service: &mut Service<Sha1Naming>) -> Result<(), RunFault> {
+fn serve(
+    rt: &HostRuntime,
+    service: &mut Service<Sha1Naming>,
+    is_changed: &mut bool,
+) -> Result<(), RunFault> {
     let mut reader = Counted::new(BufReader::new(rt.alloc(), rt.stdin())?);
     let mut writer = Counted::new(rt.stdout());
-    Ok(gitpool::serve(rt.alloc(), service, &mut reader, &mut writer)?)
+    Ok(gitpool::serve_noting(rt.alloc(), service, &mut reader, &mut writer, is_changed)?)
 }
 
 // Imports one stream.

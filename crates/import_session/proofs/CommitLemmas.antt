@@ -17,18 +17,19 @@ use Rattle.open_commits.specs.declared.open_commit.OpenCommit.{OpenCommit as Len
 use Rattle.open_commits.specs.Calls.{Changes}
 use Rattle.open_commits.specs.Parents.{changed_to, started_from}
 use Rattle.open_commits.specs.OpenCommit.{Header, HeldCommit, OpenCommit, begun, begun_on, commit_held, commit_in, shown_in}
-use Rattle.stream_state.specs.declared.fault.Fault.{Fault}
-use Rattle.stream_state.specs.declared.fault.Fault.TheVariants as fault
-use Rattle.stream_state.specs.declared.headers.CommitHeader.{CommitHeader}
-use Rattle.stream_state.specs.declared.headers.InlineFile.{InlineFile}
-use Rattle.stream_state.specs.OpenCommand.{OpenCommand, Inline, changes_in, command_with}
-use Rattle.stream_state.specs.OpenCommand as open_command
-use Rattle.stream_state.specs.Faults.{and_then}
+use Rattle.stream_parts.specs.declared.fault.Fault.{Fault}
+use Rattle.stream_parts.specs.declared.fault.Fault.TheVariants as fault
+use Rattle.stream_parts.specs.declared.headers.CommitHeader.{CommitHeader}
+use Rattle.stream_parts.specs.declared.headers.InlineFile.{InlineFile}
+use Rattle.stream_parts.specs.OpenCommand.{OpenCommand, Inline, changes_in, command_with}
+use Rattle.stream_parts.specs.OpenCommand as open_command
+use Rattle.stream_parts.specs.Faults.{and_then}
 use Rattle.stream_commands.specs.Faults.{changed_or}
-use Rattle.stream_state.specs.Branches.{Branches, branch_set, tip_for}
+use Rattle.stream_parts.specs.Branches.{Branches, branch_set, tip_for}
 use Rattle.stream_commands.specs.Workspace.{Effect, Workspace, quiet, with_command}
 use Rattle.stream_commands.specs.Lines.{in_changes}
-use Rattle.import_session.specs.Commits.{begun_from, commit_opened, header_said, opened_at, opened_with, started_or_cleared}
+use Rattle.import_session.specs.Commits.{begun_from, commit_opened, header_said}
+use Rattle.import_session.specs.Opening.{opened_at, opened_with, started_or_cleared}
 use Rattle.stream_commands.specs.State.{StreamState, branched, state_with, workspace_in, CarriesOut}
 use Rattle.import_session.specs.Session.{Leaves}
 use Rattle.import_session.specs.Sound.{IsSound}

@@ -2,15 +2,15 @@
 use Rattle.std.proofs.Common.{◌≡◌, ◌≢◌, ◌⊎◌, inl, inr, ℕ, List, [], Result, Ok, Err, refl, sym, ap, subst, Bool, false, append-nil, true}
 use Rattle.std.specs.Prelude.{OnOk}
 use Rattle.std.proofs.lemmas.Bool.{cond-true}
-use Rattle.stream_state.specs.declared.fault.Fault.{Fault}
-use Rattle.stream_state.specs.declared.fault.Fault.TheVariants as fault
+use Rattle.stream_parts.specs.declared.fault.Fault.{Fault}
+use Rattle.stream_parts.specs.declared.fault.Fault.TheVariants as fault
 use Rattle.stream_lex.specs.Items.{Item}
 use Rattle.stream_grammar.specs.declared.fault.Fault.{Fault as TextFault}
 use Rattle.stream_grammar.specs.declared.act.Done.{Done as LentDone}
 use Rattle.stream_grammar.specs.declared.fault.Fault.TheVariants as text_fault
 use Rattle.stream_grammar.specs.Shown.{Answers, act_shown, done_shown}
 use Rattle.stream_grammar.specs.Commands.{Done, Parsing}
-use Rattle.stream_state.specs.Faults.{text_first, and_then}
+use Rattle.stream_parts.specs.Faults.{text_first, and_then}
 use Rattle.stream_commands.specs.Workspace.{Workspace, Effect}
 use Rattle.import_session.specs.Commits.{closed_where}
 use Rattle.import_session.specs.Stream.{Running, Step, step, taken, is_finish}

@@ -16,14 +16,14 @@ use Rattle.revisions.specs.declared.fault.Fault.TheVariants as revision_fault
 use Rattle.revisions.specs.Faults.{or_fault}
 use Rattle.revisions.specs.Resolution.{peeled}
 use Rattle.stream_grammar.specs.Names.{CommitIsh}
-use Rattle.stream_state.specs.declared.branches.Tip.{Tip}
-use Rattle.stream_state.specs.declared.branches.Tip.TheVariants.{Unborn, Deleted, At}
-use Rattle.stream_state.specs.declared.fault.Fault.{Fault}
-use Rattle.stream_state.specs.Faults.{and_then, resolved_or}
+use Rattle.stream_parts.specs.declared.branches.Tip.{Tip}
+use Rattle.stream_parts.specs.declared.branches.Tip.TheVariants.{Unborn, Deleted, At}
+use Rattle.stream_parts.specs.declared.fault.Fault.{Fault}
+use Rattle.stream_parts.specs.Faults.{and_then, resolved_or}
 use Rattle.stream_commands.specs.Workspace.{Workspace}
-use Rattle.stream_state.specs.Branches.{commit_at, tip_of, tip_commit}
+use Rattle.stream_parts.specs.Branches.{commit_at, tip_of, tip_commit}
 use Rattle.stream_commands.specs.CommitIshes.{commit_in, is_branch, named_in, start_in}
-use Rattle.import_session.specs.Commits.{IsTipCommit}
+use Rattle.import_session.specs.Opening.{IsTipCommit}
 use Rattle.import_session.specs.Sound.{IsStreamBranch, IsSound, IsTip}
 
 -- ---- what is carried out, and then what comes after it

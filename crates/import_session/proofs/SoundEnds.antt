@@ -24,14 +24,14 @@ use Rattle.open_commits.specs.GoodCommits.{AreMarks, GrowGood, HoldsCommit, IsMa
 use Rattle.open_commits.specs.OpenCommit.{OpenCommit as Opened}
 use Rattle.open_commits.proofs.FitCommits.{end_fits}
 use Rattle.open_commits.proofs.GoodCommits.{end_keeps as commit_end}
-use Rattle.stream_state.specs.declared.branches.Tip.{Tip}
-use Rattle.stream_state.specs.declared.branches.Tip.TheVariants.{Unborn, Deleted, At}
-use Rattle.stream_state.specs.Branches.{Branches, with_branch}
-use Rattle.stream_state.specs.Faults.{and_then}
-use Rattle.stream_state.specs.Marks.{Marks, as_marked, room_for, with_mark}
-use Rattle.stream_state.specs.OpenCommand.{OpenCommand}
-use Rattle.stream_state.specs.OpenCommand as open_command
-use Rattle.stream_state.specs.Tags.{PendingTags}
+use Rattle.stream_parts.specs.declared.branches.Tip.{Tip}
+use Rattle.stream_parts.specs.declared.branches.Tip.TheVariants.{Unborn, Deleted, At}
+use Rattle.stream_parts.specs.Branches.{Branches, with_branch}
+use Rattle.stream_parts.specs.Faults.{and_then}
+use Rattle.stream_parts.specs.Marks.{Marks, as_marked, room_for, with_mark}
+use Rattle.stream_parts.specs.OpenCommand.{OpenCommand}
+use Rattle.stream_parts.specs.OpenCommand as open_command
+use Rattle.stream_parts.specs.Tags.{PendingTags}
 use Rattle.stream_commands.specs.Faults.{changed_or}
 use Rattle.stream_commands.specs.Workspace.{Workspace}
 use Rattle.import_session.specs.Commits.{closed_at, closed_where, open_closed}

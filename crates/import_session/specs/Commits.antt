@@ -1,24 +1,23 @@
 -- Commits from their first line to their end: git-fast-import(1), "commit".
-use Rattle.std.specs.Prelude.{◌≡◌, ℕ, Bool, true, false, List, Option, None, Some, IfSome, Result, Ok}
+use Rattle.std.specs.Prelude.{◌≡◌, ℕ, Bool, true, false, List, Option, None, Some, Result, Ok}
 use Rattle.git_model.specs.declared.kind.Kind.TheVariants as kind
 use Rattle.git_model.specs.References.{kind_named}
 use Rattle.git_model.specs.Repository.{Object}
 use Rattle.stream_grammar.specs.Acts.{CommitCommand, Begin, Author, Committer, Encoding, Message, From, Merge}
 use Rattle.stream_grammar.specs.Names.{CommitIsh}
 use Rattle.open_commits.specs.OpenCommit.{Header, OpenCommit, begun}
-use Rattle.open_commits.specs.Changes.{all_deleted}
 use Rattle.open_commits.specs.Parents.{started_from, merged}
 use Rattle.open_commits.specs.Ends.{Closed, closed}
-use Rattle.stream_state.specs.declared.branches.Tip.TheVariants.{At}
-use Rattle.stream_state.specs.declared.fault.Fault.{Fault}
-use Rattle.stream_state.specs.declared.headers.CommitHeader.{CommitHeader}
-use Rattle.stream_state.specs.Faults.{and_then}
+use Rattle.stream_parts.specs.declared.branches.Tip.TheVariants.{At}
+use Rattle.stream_parts.specs.declared.fault.Fault.{Fault}
+use Rattle.stream_parts.specs.declared.headers.CommitHeader.{CommitHeader}
+use Rattle.stream_parts.specs.Faults.{and_then}
 use Rattle.stream_commands.specs.Faults.{changed_or}
-use Rattle.stream_state.specs.Headers.{new_commit_header}
-use Rattle.stream_state.specs.OpenCommand.{OpenCommand, Nothing, Commit, Changes, already_said, commit_header_in}
+use Rattle.stream_parts.specs.Headers.{new_commit_header}
+use Rattle.stream_parts.specs.OpenCommand.{OpenCommand, Nothing, Commit, Changes, already_said, commit_header_in}
 use Rattle.stream_commands.specs.Workspace.{Workspace, Effect, quiet, with_command}
-use Rattle.stream_state.specs.Marks.{room_for, with_mark}
-use Rattle.stream_state.specs.Branches.{branch_set, with_branch, tip_commit, tip_for}
+use Rattle.stream_parts.specs.Marks.{room_for, with_mark}
+use Rattle.stream_parts.specs.Branches.{branch_set, with_branch, tip_commit, tip_for}
 use Rattle.stream_commands.specs.Lines.{in_changes, in_commit_header}
 use Rattle.stream_commands.specs.CommitIshes.{ref_in, commit_in, start_in}
 
@@ -38,37 +37,22 @@ abbrev pub header_said : Option ℕ → CommitHeader → Result Header Fault
 header_said mark said =
     and_then (already_said said.committer) (λ committer. Ok (header_of mark said committer))
 
--- That commit is the first parent.
+-- This commit is the first parent, if there is one.
 abbrev pub begun_from : List Object → Option (List ℕ) → OpenCommit → Result OpenCommit Fault
 begun_from objects None commit = Ok commit
 begun_from objects (Some id) commit = changed_or (started_from objects id commit)
 
--- If there is none, the files that another commit left are dropped.
-abbrev pub started_or_cleared : List Object → Option (List ℕ) → OpenCommit
-    → Result OpenCommit Fault
-started_or_cleared objects None commit = Ok (all_deleted commit)
-started_or_cleared objects (Some id) commit = changed_or (started_from objects id commit)
-
--- The first parent is a commit among the objects.
-abbrev pub IsTipCommit : List Object → Option (List ℕ) → Type 0
-IsTipCommit objects first = IfSome first (λ id. kind_named id objects ≡ Some kind.Commit)
-
--- A commit opens, and its branch is one of the stream's from then on.
-abbrev pub opened_at : Workspace → Option (List ℕ) → OpenCommit → Result Effect Fault
-opened_at workspace first commit =
-    and_then (branch_set workspace.stream.branches commit.header.ref (tip_for first)) (λ branches.
-    and_then (begun_from workspace.objects first commit) (λ opening.
-    quiet (record workspace {
-      stream = record workspace.stream { branches = branches; command = Changes opening };
-    })))
-
-abbrev pub opened_with : Workspace → List ℕ → Header → Result Effect Fault
-opened_with workspace message header =
-    opened_at workspace (tip_commit workspace.stream.branches header.ref) (begun header message)
-
+-- The commit opens on its branch, which is one of the stream's from then on. If the stream has that
+-- branch at a commit, this is the first parent, and its files come first.
 abbrev pub commit_opened : Option ℕ → List ℕ → CommitHeader → Workspace → Result Effect Fault
 commit_opened mark message said workspace =
-    and_then (header_said mark said) (opened_with workspace message)
+    and_then (header_said mark said) (λ header.
+    let first = tip_commit workspace.stream.branches header.ref in
+    and_then (branch_set workspace.stream.branches header.ref (tip_for first)) (λ branches.
+    and_then (begun_from workspace.objects first (begun header message)) (λ opening.
+    quiet (record workspace {
+      stream = record workspace.stream { branches = branches; command = Changes opening };
+    }))))
 
 -- 'data': the commit opens with this message.
 abbrev pub message_said : Option ℕ → List ℕ → Workspace → Result Effect Fault

@@ -1,7 +1,7 @@
 -- What each command does: git-fast-import(1), "Commands". Each group of commands is a file.
 use Rattle.std.specs.Prelude.{ℕ, List, Result}
 use Rattle.stream_grammar.specs.Acts.{Act, Wait, Object, Commit, Change, Ref, Reply, Control}
-use Rattle.stream_state.specs.declared.fault.Fault.{Fault}
+use Rattle.stream_parts.specs.declared.fault.Fault.{Fault}
 use Rattle.stream_commands.specs.Workspace.{Workspace, Effect, quiet}
 use Rattle.stream_commands.specs.Objects.{object_stored}
 use Rattle.import_session.specs.Commits.{commit_said}

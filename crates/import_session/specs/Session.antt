@@ -10,9 +10,9 @@ use Rattle.stream_grammar.specs.declared.fault.Fault.{Fault as TextFault}
 use Rattle.stream_grammar.specs.declared.act.Done.{Done as LentDone}
 use Rattle.stream_grammar.specs.Commands.{Done, Parsing, top}
 use Rattle.stream_grammar.specs.Shown.{done_shown}
-use Rattle.stream_state.specs.declared.fault.Fault.{Fault}
-use Rattle.stream_state.specs.declared.fault.Fault.TheVariants as fault
-use Rattle.stream_state.specs.Faults.{text_first}
+use Rattle.stream_parts.specs.declared.fault.Fault.{Fault}
+use Rattle.stream_parts.specs.declared.fault.Fault.TheVariants as fault
+use Rattle.stream_parts.specs.Faults.{text_first}
 use Rattle.import_session.specs.Stream.{Running, Step}
 use Rattle.stream_commands.specs.State.{StreamState, empty_state, workspace_in}
 

@@ -13,11 +13,11 @@ use Rattle.stream_grammar.specs.WellFormed.{IsTagRef}
 use Rattle.open_commits.specs.GoodCommits.{AreMarks, IsGoodCommit}
 use Rattle.open_commits.specs.OpenCommit.{OpenCommit}
 use Rattle.open_commits.specs.OpenFiles.{HasFiles}
-use Rattle.stream_state.specs.declared.branches.Tip.{Tip}
-use Rattle.stream_state.specs.declared.branches.Tip.TheVariants.{Unborn, Deleted, At}
-use Rattle.stream_state.specs.declared.headers.CommitHeader.{CommitHeader}
-use Rattle.stream_state.specs.declared.headers.TagHeader.{TagHeader}
-use Rattle.stream_state.specs.OpenCommand.{OpenCommand, Nothing, Commit, Tag, Reset, Changes, Inline}
+use Rattle.stream_parts.specs.declared.branches.Tip.{Tip}
+use Rattle.stream_parts.specs.declared.branches.Tip.TheVariants.{Unborn, Deleted, At}
+use Rattle.stream_parts.specs.declared.headers.CommitHeader.{CommitHeader}
+use Rattle.stream_parts.specs.declared.headers.TagHeader.{TagHeader}
+use Rattle.stream_parts.specs.OpenCommand.{OpenCommand, Nothing, Commit, Tag, Reset, Changes, Inline}
 use Rattle.stream_commands.specs.Workspace.{Workspace}
 
 -- A repository that a stream may open on, and that it leaves: its objects are good, all trees are

@@ -6,9 +6,9 @@ use Rattle.stream_lex.specs.Faults.{code_of as item_code}
 use Rattle.stream_grammar.specs.declared.act.ControlCommand.TheVariants as control
 use Rattle.stream_grammar.specs.Acts.{Act, Control}
 use Rattle.stream_grammar.specs.Commands.{Parsing, top, done_by, after, end_of}
-use Rattle.stream_state.specs.declared.fault.Fault.{Fault}
-use Rattle.stream_state.specs.declared.fault.Fault.TheVariants as fault
-use Rattle.stream_state.specs.Faults.{code_of, text_first, and_then}
+use Rattle.stream_parts.specs.declared.fault.Fault.{Fault}
+use Rattle.stream_parts.specs.declared.fault.Fault.TheVariants as fault
+use Rattle.stream_parts.specs.Faults.{code_of, text_first, and_then}
 use Rattle.stream_commands.specs.Workspace.{Workspace, Effect, quiet}
 use Rattle.stream_commands.specs.Checkpoints.{checkpoint}
 use Rattle.import_session.specs.Commits.{closed_where}

@@ -20,7 +20,7 @@ use stream_commands::refs::carry_out_ref;
 use stream_commands::replies::carry_out_reply;
 use stream_commands::state::StreamState;
 use stream_grammar::Act;
-use stream_state::fault::Fault;
+use stream_parts::fault::Fault;
 use tenant_refs::Refs;
 use tenant_tables::Table;
 

@@ -25,8 +25,8 @@ use stream_commands::fault::passed_on;
 use stream_commands::open_command::{OpenCommand, not_open};
 use stream_commands::state::{StreamState, keep_open};
 use stream_grammar::{DataRef, FileChange};
-use stream_state::fault::Fault;
-use stream_state::headers::InlineFile;
+use stream_parts::fault::Fault;
+use stream_parts::headers::InlineFile;
 use tenant_tables::Table;
 
 // 'M'.

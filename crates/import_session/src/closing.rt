@@ -8,7 +8,7 @@ ghost use Rattle.tenant_tables.specs.Room.{HasHoldsLeftBeside};
 ghost use Rattle.tenant_tables.specs.IsBackedBy.{IsBackedBy};
 ghost use Rattle.kept_files.specs.KeptCommits.{AreBranches};
 ghost use Rattle.open_commits.specs.OpenCommit.{shown_in, IsCommitHeld};
-ghost use Rattle.stream_state.specs.OpenCommand.{Nothing};
+ghost use Rattle.stream_parts.specs.OpenCommand.{Nothing};
 ghost use Rattle.stream_commands.specs.Lent.{Keeps};
 ghost use Rattle.import_session.specs.Commits.{closed_where, commit_closed, open_closed};
 ghost use Rattle.stream_commands.specs.State.{command_shown, state_shown, workspace_in, KeepsCommitted};
@@ -22,9 +22,9 @@ use open_commits::OpenCommit;
 use stream_commands::fault::fault_of;
 use stream_commands::open_command::OpenCommand;
 use stream_commands::state::StreamState;
-use stream_state::branches::Tip;
-use stream_state::fault::Fault;
-use stream_state::marks;
+use stream_parts::branches::Tip;
+use stream_parts::fault::Fault;
+use stream_parts::marks;
 use tenant_tables::Table;
 
 // Ends a commit, which is no longer the open one, and returns its name.

@@ -24,9 +24,9 @@ use stream_commands::fault::passed_on;
 use stream_commands::open_command::{OpenCommand, not_open};
 use stream_commands::state::{StreamState, keep_open};
 use stream_grammar::{CommitCommand, CommitIsh, Ident};
-use stream_state::branches::copy_meant;
-use stream_state::fault::Fault;
-use stream_state::headers::{CommitHeader, set_encoding, set_ident};
+use stream_parts::branches::copy_meant;
+use stream_parts::fault::Fault;
+use stream_parts::headers::{CommitHeader, set_encoding, set_ident};
 use tenant_refs::{RefName, Refs};
 use tenant_tables::Table;
 

@@ -13,4 +13,4 @@ mod opening;
 mod session;
 
 pub use session::Session;
-pub use stream_state::fault::Fault;
+pub use stream_parts::fault::Fault;

@@ -10,7 +10,7 @@ ghost use Rattle.stream_grammar.specs.declared.fault.Fault.{Fault as TextFault};
 ghost use Rattle.stream_grammar.specs.Commands.{Done as DoneBy};
 ghost use Rattle.stream_grammar.specs.Shown.{act_shown, Answers};
 ghost use Rattle.stream_lex.specs.Looking.{item_of};
-ghost use Rattle.stream_state.specs.Faults.{and_then};
+ghost use Rattle.stream_parts.specs.Faults.{and_then};
 ghost use Rattle.stream_commands.specs.Lent.{Keeps};
 ghost use Rattle.stream_commands.specs.Checkpoints.{checkpoint};
 ghost use Rattle.import_session.specs.Commits.{closed_where};
@@ -31,7 +31,7 @@ use stream_commands::checkpoint::save;
 use stream_commands::state::{StreamState, new_state};
 use stream_grammar::{Act, ControlCommand, Done, Parser};
 use stream_lex::Item;
-use stream_state::fault::Fault;
+use stream_parts::fault::Fault;
 use tenant_refs::Refs;
 use tenant_tables::Table;
 

@@ -33,12 +33,13 @@ abbrev pub trees_stored : (List ℕ → List ℕ) → Listed → List Object →
 trees_stored digest files os = let trees = nested_trees digest files in
     trees_or digest trees os (trees_fault digest trees os)
 
--- Only trees of these files were added to the objects, and perhaps not all: the first ones in the
+-- Only some of these trees were added to the objects, and perhaps not all: the first ones in the
 -- order of storing, none of which is refused.
-pub record LeavesTrees (digest : List ℕ → List ℕ) (files : Listed) (os new : List Object) : Type 0
+pub record LeavesTrees (digest : List ℕ → List ℕ) (trees : List (List TreeEntry))
+    (os new : List Object) : Type 0
   where
     pub done : List (List TreeEntry)
     pub rest : List (List TreeEntry)
-    pub parts : nested_trees digest files ≡ done ++ rest
+    pub parts : trees ≡ done ++ rest
     pub objects : new ≡ with_trees digest done os
     pub unrefused : trees_fault digest done os ≡ None

@@ -20,7 +20,7 @@ use git_objects::{FileMode, Name, Naming};
 use git_paths::Path;
 use stream_grammar::DataRef;
 use stream_marks::Marks;
-use tenant_tables::Table;
+use tenant_tables::{Objects, Sight, Table};
 
 fn gitlink_to(name: Name) -> Entry
     ensures { result ≡ entry_of mode.Gitlink name }
@@ -65,7 +65,7 @@ impl OpenCommit {
     {
         match mode {
             FileMode::Directory => {
-                let tree = tree_of(pool, table, marks, object)?;
+                let tree = tree_of(&Objects::of(pool, table, Sight::All), marks, object)?;
                 self.put_tree(pool, table, path, &tree)
             }
             FileMode::Gitlink => {
@@ -73,7 +73,7 @@ impl OpenCommit {
                 self.put_file(pool, table, path, gitlink_to(name))
             }
             _ => {
-                let name = blob_of(pool, table, marks, object)?;
+                let name = blob_of(&Objects::of(pool, table, Sight::All), marks, object)?;
                 self.put_file(pool, table, path, Entry { mode, name })
             }
         }

@@ -8,6 +8,7 @@ ghost use Rattle.tenant_tables.specs.Objects.{objects};
 ghost use Rattle.tenant_tables.specs.Room.{HasHoldsLeftBeside};
 ghost use Rattle.tenant_tables.specs.IsBackedBy.{IsBackedBy};
 ghost use Rattle.file_maps.specs.FileMap.{listed};
+ghost use Rattle.file_maps.specs.Trees.{nested_trees};
 ghost use Rattle.open_commits.specs.OpenCommit.{commit_held, shown_in, IsCommitHeld};
 ghost use Rattle.open_commits.specs.Ends.{closed, commit_of, KeepsFiles};
 ghost use Rattle.open_commits.specs.Storing.{LeavesTrees};
@@ -43,7 +44,8 @@ impl OpenCommit {
         ensures room { HasHoldsLeftBeside pool.new table.new.entries }
         ensures adds { AddsOnly pool.old table.old pool.new table.new }
         ensures trees { let os = objects pool.old table.old.entries in OnErr result
-            (LeavesTrees N.digest_of (listed (shown_in os self.old).files) os
+            (LeavesTrees N.digest_of
+            (nested_trees N.digest_of (listed (shown_in os self.old).files)) os
             (objects pool.new table.new.entries)) }
         ensures done { Gives (closed N.digest_of (objects pool.old table.old.entries)
             (shown_in (objects pool.old table.old.entries) self.old))

@@ -1,16 +1,13 @@
 //! What the datarefs of a change stand for: git-fast-import(1), "filemodify".
 
 ghost use Rattle.std.specs.Prelude.{◌≡◌};
-ghost use Rattle.tenant_tables.specs.Objects.{objects};
-ghost use Rattle.tenant_tables.specs.IsBackedBy.{IsBackedBy};
 ghost use Rattle.open_commits.specs.Changes.{blob_of, held_as, link_of, marked_as, tree_of};
 
 use crate::fault::Fault;
-use content_pool::Pool;
 use git_objects::{Kind, Name, Naming};
 use stream_grammar::{DataRef, Mark};
 use stream_marks::Marks;
-use tenant_tables::{Objects, Sight, Table};
+use tenant_tables::Objects;
 
 // The object of this mark must be of this kind.
 fn marked_as(marks: &Marks, wanted: Kind, mark: Mark) -> Result<Name, Fault>
@@ -26,12 +23,11 @@ fn marked_as(marks: &Marks, wanted: Kind, mark: Mark) -> Result<Name, Fault>
     }
 }
 
-// The table must have the object of this name, and it must be of this kind.
-fn held_as<N: Naming>(pool: &Pool<N>, table: &Table, wanted: Kind, id: Name) -> Result<Name, Fault>
-    requires { IsBackedBy N.digest_of pool.now table.now.entries }
-    ensures { result ≡ held_as (objects pool.now table.now.entries) wanted id }
+// There must be an object of this name, and it must be of this kind.
+fn held_as<N: Naming>(objects: &Objects<N>, wanted: Kind, id: Name) -> Result<Name, Fault>
+    ensures { result ≡ held_as objects.now wanted id }
 {
-    match Objects::of(pool, table, Sight::All).get(&id) {
+    match objects.get(&id) {
         Some((kind, _)) if kind == wanted => Ok(id),
         Some(_) => Err(Fault::WrongKind),
         None => Err(Fault::ObjectUnknown),
@@ -40,17 +36,15 @@ fn held_as<N: Naming>(pool: &Pool<N>, table: &Table, wanted: Kind, id: Name) -> 
 
 // The blob of a file, by its mark or its name.
 pub fn blob_of<N: Naming>(
-    pool: &Pool<N>,
-    table: &Table,
+    objects: &Objects<N>,
     marks: &Marks,
     object: DataRef,
 ) -> Result<Name, Fault>
-    requires { IsBackedBy N.digest_of pool.now table.now.entries }
-    ensures { result ≡ blob_of (objects pool.now table.now.entries) marks.now.entries object }
+    ensures { result ≡ blob_of objects.now marks.now.entries object }
 {
     match object {
         DataRef::Mark(mark) => marked_as(marks, Kind::Blob, mark),
-        DataRef::Name(id) => held_as(pool, table, Kind::Blob, id),
+        DataRef::Name(id) => held_as(objects, Kind::Blob, id),
     }
 }
 
@@ -66,13 +60,11 @@ pub fn link_of(marks: &Marks, object: DataRef) -> Result<Name, Fault>
 
 // The tree of a directory, by its name alone.
 pub fn tree_of<N: Naming>(
-    pool: &Pool<N>,
-    table: &Table,
+    objects: &Objects<N>,
     marks: &Marks,
     object: DataRef,
 ) -> Result<Name, Fault>
-    requires { IsBackedBy N.digest_of pool.now table.now.entries }
-    ensures { result ≡ tree_of (objects pool.now table.now.entries) marks.now.entries object }
+    ensures { result ≡ tree_of objects.now marks.now.entries object }
 {
     match object {
         DataRef::Mark(mark) => {
@@ -82,6 +74,6 @@ pub fn tree_of<N: Naming>(
                 Err(Fault::MarkUnknown)
             }
         }
-        DataRef::Name(id) => held_as(pool, table, Kind::Tree, id),
+        DataRef::Name(id) => held_as(objects, Kind::Tree, id),
     }
 }

@@ -6,8 +6,9 @@ ghost use Rattle.tenant_tables.specs.Objects.{objects};
 ghost use Rattle.tenant_tables.specs.Room.{HasHoldsLeftBeside};
 ghost use Rattle.tenant_tables.specs.IsBackedBy.{IsBackedBy};
 ghost use Rattle.file_maps.specs.Edits.{files_at};
+ghost use Rattle.file_maps.specs.Trees.{nested_trees};
 ghost use Rattle.open_commits.specs.OpenCommit.{shown_in, IsCommitHeld};
-ghost use Rattle.open_commits.specs.Showing.{entry_shown, file_or_trees};
+ghost use Rattle.open_commits.specs.Showing.{entry_shown, file_or_trees, shown_trees, trees_by_mode};
 ghost use Rattle.open_commits.specs.Storing.{LeavesTrees};
 ghost use Rattle.open_commits.specs.Calls.{AddsOnly, Gives};
 
@@ -27,8 +28,8 @@ impl OpenCommit {
     /// The first tree that is refused decides: `Fault::Limit` (25) if its contents are too long or
     /// the table is full, else `Fault::NameCollision` (24) if the table has another object of its
     /// name. If an allocation fails, the answer is `Fault::Memory` (90). After a refusal the table
-    /// may have some of the trees after its committed objects, the first ones in the order of
-    /// storing. The commit is unchanged in any case.
+    /// may have some of the directory's trees after its committed objects, the first ones in the
+    /// order of storing. The commit is unchanged in any case.
     ///
     /// `pool` holds the contents of `table`. Others hold each content fewer than 2^64 - 2 times.
     pub fn show_entry<N: Naming>(
@@ -44,7 +45,8 @@ impl OpenCommit {
         ensures room { HasHoldsLeftBeside pool.new table.new.entries }
         ensures adds { AddsOnly pool.old table.old pool.new table.new }
         ensures trees { let os = objects pool.old table.old.entries in
-            LeavesTrees N.digest_of (files_at (shown_in os self.old).files path.now) os
+            LeavesTrees N.digest_of
+            (shown_trees N.digest_of (shown_in os self.old).files path.now) os
             (objects pool.new table.new.entries) }
         ensures done { Gives (entry_shown N.digest_of (objects pool.old table.old.entries)
             (shown_in (objects pool.old table.old.entries) self.old).files path.now)
@@ -76,7 +78,8 @@ impl OpenCommit {
         ensures room { HasHoldsLeftBeside pool.new table.new.entries }
         ensures adds { AddsOnly pool.old table.old pool.new table.new }
         ensures trees { let os = objects pool.old table.old.entries in
-            LeavesTrees N.digest_of (files_at (shown_in os self.old).files path.now) os
+            LeavesTrees N.digest_of (trees_by_mode mode
+            (nested_trees N.digest_of (files_at (shown_in os self.old).files path.now))) os
             (objects pool.new table.new.entries) }
         ensures done { Gives (file_or_trees N.digest_of (objects pool.old table.old.entries)
             (shown_in (objects pool.old table.old.entries) self.old).files path.now mode)

@@ -1,9 +1,9 @@
 -- A table that begins with the objects of the first numbers: what it has, and the sums of its trees.
-use Rattle.std.proofs.Common.{◌≡◌, ℕ, zero, suc, ◌+◌, ◌<◌, ◌≤◌, List, [], ◌∷◌, ◌++◌, length, take, drop, get_or, Some, refl, sym, ap, subst, ◌∙◌, append_assoc, append-nil, arith}
+use Rattle.std.proofs.Common.{◌≡◌, ℕ, zero, suc, ◌+◌, ◌<◌, ◌≤◌, List, [], ◌∷◌, ◌++◌, length, take, drop, get_or, Some, refl, sym, ap, subst, ◌∙◌, append_assoc, arith}
 use Rattle.std.specs.Prelude.{All, slice_get}
 use Rattle.std.specs.List.{IsDistinct}
 use Rattle.std.specs.Str.{bytes_eq}
-use Rattle.std.proofs.lemmas.List.{drop_all, map-append, take_all}
+use Rattle.std.proofs.lemmas.List.{map-append, take_all}
 use Rattle.std.proofs.lemmas.Option.{get_or_from_slice_get}
 use Rattle.git_model.specs.Content.{name_by}
 use Rattle.git_model.specs.Repository.{Object}
@@ -16,10 +16,8 @@ use Rattle.tenant_tables.proofs.HoldLemmas.{IsNamed, held-nil}
 use Rattle.tenant_tables.proofs.Joined.{take-one}
 use Rattle.pool_file_checks.specs.Own.{own_objects}
 use Rattle.pool_file_checks.specs.Sums.{Sums, TreesFit, sums_with}
-use Rattle.pool_file_checks.proofs.OwnObjects.{own_length}
-use Rattle.pool_file_checks.proofs.SumLemmas.{same_trees}
 use Rattle.pool_file.specs.Building.{objects_at}
-use Rattle.pool_file.specs.Tables.{AreNoted, BeginAlike, object_of}
+use Rattle.pool_file.specs.Tables.{BeginAlike, object_of}
 use Rattle.pool_file.proofs.Alike.{IsLike, like_none, like_on}
 use Rattle.pool_file.proofs.LoadedTables.{AreLoaded, MayLoad, any_default, own_left}
 
@@ -115,26 +113,16 @@ module _ (digest : List ℕ → List ℕ) (p0 p1 : Cells) (slots numbers : List 
   all_here = take_all (length es) es (omega arith)
 
   -- what is left of the objects can be loaded
-  pub begun : (sums : Sums) → AreNoted sums es
-      → AreLoaded digest p0 p1 es sums (drop (length es) own) own
-  begun sums noted =
-      let b = begun_at in record {
-        stands = stands;
-        others = others;
-        objects =
-            ap (λ (xs : Entries). objects p1 xs ++ drop (length es) own) (sym all_here) ∙ b.are;
-        trees =
-            same_trees (drop (length es) own) b.sums sums
-            (λ q. b.like.noted q ∙ ap (λ (xs : Entries). summary_of q xs) all_here ∙ sym (noted q)) b.fit;
-        noted = noted;
-      }
-
-  -- nothing is left
-  pub begun_all : length es ≡ length numbers → objects p1 es ≡ own
-  begun_all size =
-      let b = begun_at in
-      let len = own_length digest (objects_at p0 slots) numbers in
-      let past : length own ≤ length es = omega (arith, size, len) in
-      sym (append-nil (objects p1 es))
-      ∙ ap (λ (rest : List Object). objects p1 es ++ rest) (sym (drop_all (length es) own past))
-      ∙ ap (λ (xs : Entries). objects p1 xs ++ drop (length es) own) (sym all_here) ∙ b.are
+  pub begun : (sums : Sums) × AreLoaded digest p0 p1 es sums (drop (length es) own) own
+  begun =
+      let b = begun_at in (
+        b.sums,
+        record {
+          stands = stands;
+          others = others;
+          objects =
+              ap (λ (xs : Entries). objects p1 xs ++ drop (length es) own) (sym all_here) ∙ b.are;
+          trees = b.fit;
+          noted = λ q. b.like.noted q ∙ ap (λ (xs : Entries). summary_of q xs) all_here;
+        },
+      )

@@ -1,6 +1,7 @@
 -- Tenants that are built one after another over a pool that changes.
-use Rattle.std.proofs.Common.{◌≡◌, ℕ, ◌+◌, ◌<◌, ◌≤◌, ◌^◌, List, [], ◌∷◌, ◌++◌, map, length, Option, None, Some, refl, sym, ap, subst, ◌∙◌, append-nil, append_assoc, arith}
-use Rattle.std.specs.Prelude.{All}
+use Rattle.std.proofs.Common.{◌≡◌, ℕ, zero, suc, ◌+◌, ◌<◌, ◌≤◌, ◌^◌, List, [], ◌∷◌, ◌++◌, map, length, set, Option, None, Some, refl, sym, ap, subst, ◌∙◌, append-nil, append_assoc, arith}
+use Rattle.std.specs.Prelude.{All, slice_get}
+use Rattle.std.specs.Option.{unwrap_or}
 use Rattle.std.specs.List.{AllByRecursion}
 use Rattle.std.proofs.lemmas.List.{map-append}
 use Rattle.std.proofs.lemmas.List.Elements.{All-nil, All-cons}
@@ -24,7 +25,9 @@ use Rattle.pool_file_checks.proofs.OwnObjects.{own_length}
 use Rattle.pool_file_checks.proofs.Passing.{passes_front, passes_rest}
 use Rattle.pool_file.specs.declared.tenant.Tenant.{Tenant}
 use Rattle.pool_file.specs.Loading.{named_in, loaded_repositories, all_held}
-use Rattle.pool_file.specs.Building.{objects_at, IsChecked, IsBuilt, AreUnder, Builds, Adds}
+use Rattle.pool_file.specs.Building.{objects_at, IsChecked, IsBuilt, AreUnder, Builds, Adds, SharesFront}
+use Rattle.pool_file.specs.declared.relatives.Shared.{Shared}
+use Rattle.pool_file.specs.Tables.{BeginAlike}
 use Rattle.pool_file.proofs.Slots.{objects_at-kept}
 
 -- ---- what tenants hold
@@ -90,17 +93,29 @@ module _ (p q : Cells) where
         (λ s. let a = all_held-cons t ts s in let b = counted s in omega arith) all.1,
   )
 
--- ---- the last tenant
+-- ---- a tenant that shares its first objects
 
-each_last : {X : Type 0} (P : X → Type 0) (xs : List X) (x : X) → AllByRecursion P (xs ++ x ∷ []) → P x
-each_last P [] x all = all.0
-each_last P (y ∷ ys) x all = each_last P ys x all.1
+each_at : {X : Type 0} (P : X → Type 0) (xs : List X) (i : ℕ) (x : X) → AllByRecursion P xs → slice_get xs i ≡ Some x → P x
+each_at P [] i x all at = cc at
+each_at P (y ∷ ys) zero x all at = subst P (ap (λ (o : Option _). unwrap_or o x) at) all.0
+each_at P (y ∷ ys) (suc i) x all at = each_at P ys i x all.1 at
 
-pub last_stands : (digest : List ℕ → List ℕ) (slots : List ℕ) (pool : Cells) (all ts : List Tenant)
-    (t : Tenant) → AreUnder digest slots pool all → all ≡ ts ++ t ∷ []
+pub one_stands : (digest : List ℕ → List ℕ) (slots : List ℕ) (pool : Cells) (all : List Tenant) (i : ℕ)
+    (t : Tenant) → AreUnder digest slots pool all → slice_get all i ≡ Some t
     → IsBackedBy digest pool t.table.entries
-last_stands digest slots pool all ts t under is =
-    (each_last (IsBuilt digest pool) ts t (subst (AllByRecursion (IsBuilt digest pool)) is under.each)).stands
+one_stands digest slots pool all i t under at = (each_at (IsBuilt digest pool) all i t under.each at).stands
+
+pub begins_alike : (slots numbers : List ℕ) (all : List Tenant) (s : Shared) (t : Tenant)
+    → SharesFront slots numbers all s → slice_get all s.place ≡ Some t
+    → BeginAlike t.table.entries slots numbers s.count
+begins_alike slots numbers all s t shares at =
+    let same : shares.tenant ≡ t = ap (λ (o : Option Tenant). unwrap_or o t) (sym shares.there ∙ at) in
+    subst (λ (x : Tenant). BeginAlike x.table.entries slots numbers s.count) same shares.alike
+
+pub same_set : {X : Type 0} (xs : List X) (i : ℕ) (x y : X) → slice_get xs i ≡ Some x → y ≡ x → set xs i y ≡ xs
+same_set [] i x y at same = cc
+same_set (z ∷ zs) zero x y at same = ap (λ (w : _). w ∷ zs) (same ∙ sym (ap (λ (o : Option _). unwrap_or o x) at))
+same_set (z ∷ zs) (suc i) x y at same = ap (λ (ws : List _). z ∷ ws) (same_set zs i x y at same)
 
 -- ---- one tenant more
 

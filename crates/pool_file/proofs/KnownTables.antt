@@ -1,11 +1,9 @@
 -- The objects of a tenant whose summaries are known, added to its table one after another.
-use Rattle.std.proofs.Common.{◌≡◌, ℕ, ◌+◌, ◌<◌, List, [], ◌∷◌, length, drop, get_or, Option, None, Some, Result, Ok, Err, refl, sym, ap, subst, ◌∙◌}
+use Rattle.std.proofs.Common.{◌≡◌, ℕ, ◌+◌, ◌<◌, List, ◌∷◌, length, drop, get_or, Option, Some, Result, refl, sym, ap, subst, ◌∙◌}
 use Rattle.std.specs.Prelude.{OnOk}
-use Rattle.std.specs.Map.{lookup}
-use Rattle.std.specs.Str.{bytes_eq}
 use Rattle.git_model.specs.declared.kind.Kind.{Kind}
 use Rattle.git_model.specs.declared.kind.Kind.TheVariants as kind
-use Rattle.git_model.specs.Content.{Content, name_by}
+use Rattle.git_model.specs.Content.{Content}
 use Rattle.git_model.specs.Repository.{Object}
 use Rattle.git_model.specs.TreeReading.{tree_read}
 use Rattle.content_pool.specs.Pool.{Cells, content}
@@ -21,7 +19,7 @@ use Rattle.pool_file_checks.proofs.SumLemmas.{own_sum}
 use Rattle.pool_file_checks.proofs.TenantLemmas.{left_at}
 use Rattle.pool_file.specs.Building.{objects_at}
 use Rattle.pool_file.specs.Tables.{CanAdd, Loads, known_sum, object_of, sums_on}
-use Rattle.pool_file.proofs.LoadedTables.{AreLoaded, MayLoad, own_left, sum_is, summed, loaded, same, may_load, loaded_on}
+use Rattle.pool_file.proofs.LoadedTables.{AreLoaded, MayLoad, own_left, summed_own, loaded_own, same, may_load, loaded_on}
 
 -- ---- one object
 
@@ -34,26 +32,16 @@ own_is kind.Tag bytes noted sum is = refl
 
 module _ (digest : List ℕ → List ℕ) (p : Cells) (old : View) (slot : ℕ) (sum : Summary) (can : CanAdd digest p old.entries slot sum)
     (k : Kind) (s : Option Summary) (kind_is : k ≡ (content p slot).kind) (is : s ≡ known_sum k sum) where
-  abbrev c : Content
-  c = content p slot
+  made : s ≡ own_sum (content p slot).kind (content p slot).bytes can.noted
+  made = is ∙ ap (λ (j : Kind). known_sum j sum) kind_is ∙ own_is (content p slot).kind (content p slot).bytes can.noted sum can.sum_is
 
-  abbrev more : Sums
-  more = sums_on digest c can.noted
-
-  sum_found : s ≡ lookup (bytes_eq (name_by digest c)) more
-  sum_found =
-      is ∙ ap (λ (j : Kind). known_sum j sum) kind_is ∙ own_is c.kind c.bytes can.noted sum can.sum_is
-      ∙ sym (sum_is c.kind (name_by digest c) c.bytes can.noted more old.entries can.can.noted can.can.new (λ id. refl))
-
-  pub summed_known : SummedAfter old.entries c s
-  summed_known = subst (SummedAfter old.entries c) (sym sum_found) (summed digest p old can.noted slot can.can more (λ id. refl))
+  pub summed_known : SummedAfter old.entries (content p slot) s
+  summed_known = summed_own digest p old can.noted slot can.can s made
 
   pub loaded_known : {A E : Type 0} (r : Result A E) (q : Cells) (new : View) → IsBackedBy digest q new.entries → PreservesOthers p old.entries q new.entries
-      → OnOk r (Adds digest c s p old q new) → OnOk r (Loads digest slot p old.entries can.noted q new.entries more)
-  loaded_known (Ok x) q new stands others adds =
-      loaded digest p old can.noted slot can.can q new more stands others (λ id. refl)
-      (subst (λ (t : Option Summary). Adds digest c t p old q new) sum_found adds)
-  loaded_known (Err e) q new stands others adds = tt
+      → OnOk r (Adds digest (content p slot) s p old q new)
+      → OnOk r (Loads digest slot p old.entries can.noted q new.entries (sums_on digest (content p slot) can.noted))
+  loaded_known = loaded_own digest p old can.noted slot can.can s made
 
 -- ---- one object after another
 

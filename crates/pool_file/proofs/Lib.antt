@@ -4,6 +4,7 @@ pub mod LoadedRefs
 pub mod Slots
 pub mod StoredContents
 pub mod LoadedTables
+pub mod EntrySums
 pub mod KnownTables
 pub mod Alike
 pub mod Starting

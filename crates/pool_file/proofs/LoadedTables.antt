@@ -10,7 +10,7 @@ use Rattle.std.proofs.lemmas.Map.Keys.{IsDistinct-head, IsDistinct-tail}
 use Rattle.std.proofs.lemmas.Slice.Eq.{bytes_eq-Decides}
 use Rattle.git_model.specs.declared.kind.Kind.{Kind}
 use Rattle.git_model.specs.declared.kind.Kind.TheVariants as kind
-use Rattle.git_model.specs.Content.{Content, content_from, name_by}
+use Rattle.git_model.specs.Content.{Content, name_by}
 use Rattle.git_model.specs.GoodRepository.{objects_limit}
 use Rattle.git_model.specs.Repository.{Object, object_named}
 use Rattle.git_model.specs.TreeReading.{tree_read}
@@ -40,7 +40,7 @@ use Rattle.pool_file_checks.proofs.Keys.{content_again}
 use Rattle.pool_file_checks.proofs.OwnObjects.{ids, own_distinct, own_length}
 use Rattle.pool_file_checks.proofs.RawTenants.{name_of_number}
 use Rattle.pool_file.specs.Building.{objects_at}
-use Rattle.pool_file.specs.Tables.{AreNoted, object_of, CanLoad, Loads}
+use Rattle.pool_file.specs.Tables.{AreNoted, object_of, CanLoad, Loads, sums_on}
 
 -- ---- the object of a number
 
@@ -191,32 +191,29 @@ module _ (digest : List ℕ → List ℕ) (p : Cells) (old : View) (sums : Sums)
     trees = same;
   }
 
--- a name and a sum that were found for the object in its slot
-module _ (digest : List ℕ → List ℕ) (p : Cells) (old : View) (sums more : Sums) (slot : ℕ) (can : CanLoad digest p old.entries sums slot)
-    (k : Kind) (bytes id : List ℕ) (s : Option Summary) (has : content_from k bytes ≡ content p slot)
-    (named : id ≡ name_by digest (content_from k bytes)) (found : s ≡ lookup (bytes_eq id) more)
-    (same : SameSums more (sums_with k id bytes sums)) where
-  name_is : id ≡ name_by digest (content p slot)
-  name_is = named ∙ ap (name_by digest) has
+-- the sum of the object in the slot, however it was found
+module _ (digest : List ℕ → List ℕ) (p : Cells) (old : View) (sums : Sums) (slot : ℕ) (can : CanLoad digest p old.entries sums slot)
+    (s : Option Summary) (own : s ≡ own_sum (content p slot).kind (content p slot).bytes sums) where
+  abbrev here : Content
+  here = content p slot
 
-  sums_are : SameSums more (sums_with (content p slot).kind (name_by digest (content p slot)) (content p slot).bytes sums)
-  sums_are =
-      subst (λ (c : Content). SameSums more (sums_with c.kind (name_by digest c) c.bytes sums)) has
-      (subst (λ (x : List ℕ). SameSums more (sums_with k x bytes sums)) named same)
+  abbrev more : Sums
+  more = sums_on digest here sums
 
-  sum_found : s ≡ lookup (bytes_eq (name_by digest (content p slot))) more
-  sum_found = found ∙ ap (λ (x : List ℕ). lookup (bytes_eq x) more) name_is
+  sum_found : s ≡ lookup (bytes_eq (name_by digest here)) more
+  sum_found =
+      own ∙ sym (sum_is here.kind (name_by digest here) here.bytes sums more old.entries can.noted can.new (λ id. refl))
 
-  pub summed_as : SummedAfter old.entries (content p slot) s
-  summed_as = subst (SummedAfter old.entries (content p slot)) (sym sum_found) (summed digest p old sums slot can more sums_are)
+  pub summed_own : SummedAfter old.entries here s
+  summed_own = subst (SummedAfter old.entries here) (sym sum_found) (summed digest p old sums slot can more (λ id. refl))
 
-  pub loaded_as : {A E : Type 0} (r : Result A E) (q : Cells) (new : View) → IsBackedBy digest q new.entries → PreservesOthers p old.entries q new.entries
-      → OnOk r (Adds digest (content p slot) s p old q new)
+  pub loaded_own : {A E : Type 0} (r : Result A E) (q : Cells) (new : View) → IsBackedBy digest q new.entries
+      → PreservesOthers p old.entries q new.entries → OnOk r (Adds digest here s p old q new)
       → OnOk r (Loads digest slot p old.entries sums q new.entries more)
-  loaded_as (Ok x) q new stands others adds =
-      loaded digest p old sums slot can q new more stands others sums_are
-      (subst (λ (t : Option Summary). Adds digest (content p slot) t p old q new) sum_found adds)
-  loaded_as (Err e) q new stands others adds = tt
+  loaded_own (Ok x) q new stands others adds =
+      loaded digest p old sums slot can q new more stands others (λ id. refl)
+      (subst (λ (t : Option Summary). Adds digest here t p old q new) sum_found adds)
+  loaded_own (Err e) q new stands others adds = tt
 
 -- each number has a name
 pub names_reach : (digest : List ℕ → List ℕ) (pool : Cells) (slots : List ℕ) (n : ℕ) → n < length slots

@@ -64,7 +64,7 @@ alike_more es slots numbers k slot h l told at =
 
 -- ---- what it starts with
 
-pub none_started : (digest : List ℕ → List ℕ) (slots numbers : List ℕ) (p : Cells) (t : View)
+none_started : (digest : List ℕ → List ℕ) (slots numbers : List ℕ) (p : Cells) (t : View)
     → t.entries ≡ [] → t.committed ≡ 0 → Starts digest slots numbers p p t
 none_started digest slots numbers p t empty none = record {
   stands = rw empty (IsBackedBy-nil digest p);
@@ -72,6 +72,12 @@ none_started digest slots numbers p t empty none = record {
   committed = rw empty none;
   alike = rw empty (alike_none [] slots numbers);
 }
+
+pub none_made : {E : Type 0} (digest : List ℕ → List ℕ) (slots numbers : List ℕ) (p : Cells) (r : Result View E)
+    → IfOk r (λ t. t.entries ≡ []) → IfOk r (λ t. t.committed ≡ 0)
+    → IfOk r (λ t. Starts digest slots numbers p p t)
+none_made digest slots numbers p (Err e) empty none = tt
+none_made digest slots numbers p (Ok t) empty none = none_started digest slots numbers p t empty none
 
 pub shared_started : {E : Type 0} (digest : List ℕ → List ℕ) (slots numbers : List ℕ) (p q : Cells)
     (es : Entries) (n : ℕ) → BeginAlike es slots numbers n

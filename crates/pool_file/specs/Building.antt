@@ -1,5 +1,5 @@
 -- The contents of a file in a pool, and the tenants over it, while they are built.
-use Rattle.std.specs.Prelude.{◌≡◌, ℕ, ◌+◌, ◌≤◌, ◌==◌, true, List, [], ◌++◌, map, length, count_by, Option, None}
+use Rattle.std.specs.Prelude.{◌≡◌, ℕ, ◌+◌, ◌≤◌, ◌==◌, true, List, [], ◌++◌, map, length, count_by, slice_get, Option, None, Some}
 use Rattle.std.specs.List.{AllByRecursion}
 use Rattle.content_pool.specs.Pool.{Cells, holds, content}
 use Rattle.tenant_refs.specs.TenantName.{is_tenant_name}
@@ -9,8 +9,10 @@ use Rattle.pool_file_checks.specs.Checks.{Passes}
 use Rattle.pool_file_checks.specs.Objects.{raw_object, object_checks}
 use Rattle.pool_file_checks.specs.Whole.{one_tenant_checks}
 use Rattle.pool_file_checks.specs.Saved.{named_at}
+use Rattle.pool_file.specs.declared.relatives.Shared.{Shared}
 use Rattle.pool_file.specs.declared.tenant.Tenant.{Tenant}
 use Rattle.pool_file.specs.Loading.{named_in, loaded_repositories, all_held}
+use Rattle.pool_file.specs.Tables.{BeginAlike}
 
 -- The objects of a file whose contents lie in these slots, in the order of the slots.
 unfoldable pub objects_at : Cells → List ℕ → List RawObject
@@ -40,6 +42,12 @@ pub record AreUnder (digest : List ℕ → List ℕ) (slots : List ℕ) (pool : 
   pub once : (s : ℕ) → times_in slots s ≤ 1
   pub counts : (s : ℕ) → holds pool s ≡ times_in slots s + all_held tenants s
   pub each : AllByRecursion (IsBuilt digest pool) tenants
+
+-- A tenant's table begins with the objects of the first numbers, as many as are to be shared.
+pub record SharesFront (slots numbers : List ℕ) (tenants : List Tenant) (s : Shared) : Type 0 where
+  pub tenant : Tenant
+  pub there : slice_get tenants s.place ≡ Some tenant
+  pub alike : BeginAlike tenant.table.entries slots numbers s.count
 
 -- A tenant was built, and it is what the file says of it.
 pub record Builds (digest : List ℕ → List ℕ) (os : List RawObject) (r : RawTenant) (before : Cells)

@@ -1,8 +1,8 @@
 -- In reading order.
 pub mod Refs
 pub mod Loading
-pub mod Building
 pub mod Tables
+pub mod Building
 pub mod Listing
 pub mod Worth
 pub mod Lent

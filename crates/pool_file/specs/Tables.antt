@@ -13,6 +13,8 @@ use Rattle.tenant_tables.specs.declared.entry.Entry.{Entry}
 use Rattle.tenant_tables.specs.declared.summary.Summary.{Summary}
 use Rattle.tenant_tables.specs.View.{View, Entries, entry_named, summary_of}
 use Rattle.tenant_tables.specs.Objects.{objects}
+use Rattle.tenant_tables.specs.Sums.{IsTreeText, IsWithin}
+use Rattle.tenant_tables.specs.Trees.{tree_summary}
 use Rattle.tenant_tables.specs.IsBackedBy.{IsBackedBy, PreservesOthers}
 use Rattle.pool_file_checks.specs.Sums.{Sums, SameSums, Fits, sum_of_tree, sums_with}
 
@@ -20,10 +22,20 @@ use Rattle.pool_file_checks.specs.Sums.{Sums, SameSums, Fits, sum_of_tree, sums_
 abbrev pub AreNoted : Sums → Entries → Type 0
 AreNoted sums entries = (id : List ℕ) → lookup (bytes_eq id) sums ≡ summary_of id entries
 
--- The sums with one more, if there is one.
-abbrev pub with_sum : List ℕ → Option Summary → Sums → Sums
-with_sum id None sums = sums
-with_sum id (Some s) sums = (id, s) ∷ sums
+-- An object fits after the trees of a table.
+abbrev pub FitsIn : Entries → Kind → List ℕ → Type 0
+FitsIn entries kind.Tree bytes = IsTreeText bytes (tree_read bytes)
+    × IsWithin (tree_summary entries (tree_read bytes))
+FitsIn entries kind.Blob bytes = Unit {0}
+FitsIn entries kind.Commit bytes = Unit {0}
+FitsIn entries kind.Tag bytes = Unit {0}
+
+-- The summary of an object after the trees of a table, if it is a tree.
+abbrev pub summary_in : Entries → Kind → List ℕ → Option Summary
+summary_in entries kind.Tree bytes = Some (tree_summary entries (tree_read bytes))
+summary_in entries kind.Blob bytes = None
+summary_in entries kind.Commit bytes = None
+summary_in entries kind.Tag bytes = None
 
 -- A content under its name.
 abbrev pub object_of : (List ℕ → List ℕ) → Content → Object

@@ -1,6 +1,6 @@
 //! Building what a good file says: its contents in one pool, and the tenants over it.
 
-ghost use Rattle.std.specs.Prelude.{◌≡◌, [], ◌∷◌, true, All, IfOk, OnOk};
+ghost use Rattle.std.specs.Prelude.{◌≡◌, [], ◌∷◌, true, All, IfOk, IfSome, OnOk};
 ghost use Rattle.content_pool.specs.Pool.{IsLive, IsVacant};
 ghost use Rattle.tenant_refs.specs.TenantName.{IsTenantName, is_tenant_name};
 ghost use Rattle.tenant_tables.specs.IsBackedBy.{IsBackedBy};
@@ -12,10 +12,12 @@ ghost use Rattle.pool_file_checks.specs.Quick.{KnowsSums};
 ghost use Rattle.pool_file_checks.specs.Whole.{file_checks};
 ghost use Rattle.pool_file_checks.specs.Saved.{saved_in};
 ghost use Rattle.pool_file.specs.Loading.{loaded_repositories, AreTenants};
-ghost use Rattle.pool_file.specs.Building.{objects_at, IsChecked, AreUnder, Builds, Adds};
+ghost use Rattle.pool_file.specs.Building.{objects_at, IsChecked, AreUnder, Builds, Adds, SharesFront};
+ghost use Rattle.pool_file.specs.Tables.{BeginAlike};
 
 use crate::contents::{release_contents, store_contents};
 use crate::refs::load_refs;
+use crate::relatives::{Relatives, Shared};
 use crate::tables::load_table;
 use crate::tenant::Tenant;
 use content_pool::{Pool, Slot};
@@ -34,8 +36,8 @@ fn read_tenant_name(text: &[u8]) -> TenantName
     TenantName::read(text).unwrap()
 }
 
-// Builds a tenant of a file whose contents lie in these slots. It may share objects with another
-// table.
+// Builds a tenant of a file whose contents lie in these slots. It shares its first `count` objects
+// with another table.
 fn build_tenant<N: Naming>(
     alloc: Global,
     pool: &mut Pool<N>,
@@ -44,6 +46,7 @@ fn build_tenant<N: Naming>(
     known: &KnownSums,
     tenant: &RawTenant,
     other: &mut Table,
+    count: usize,
 ) -> Result<Tenant, Memory>
     requires live { All (IsLive pool.old) slots.now }
     requires room { HasHoldsLeftBeside pool.old [] }
@@ -52,12 +55,22 @@ fn build_tenant<N: Naming>(
     requires checked { IsChecked N.digest_of (objects_at pool.old slots.now)
         (tenant_of tenant.now) }
     requires other { IsBackedBy N.digest_of pool.old other.old.entries }
+    requires alike { BeginAlike other.old.entries slots.now tenant.now.numbers.items count }
     ensures same { other.new ≡ other.old }
     ensures builds { IfOk result (λ t. Builds N.digest_of (objects_at pool.old slots.now)
         (tenant_of tenant.now) pool.old pool.new t) }
 {
     let name = read_tenant_name(&tenant.name);
-    let table = load_table(alloc, pool, slots, names, known, &tenant.numbers, other)?;
+    let table = load_table(
+        alloc,
+        pool,
+        slots,
+        names,
+        known,
+        &tenant.numbers,
+        other,
+        count,
+    )?;
     let refs = load_refs(alloc, &table, tenant)?;
     Ok(Tenant { name, table, refs })
 }
@@ -70,13 +83,104 @@ fn has_room<N: Naming>(pool: &Pool<N>, slots: &[Slot], tenants: &Vec<Tenant>)
     let _few = tenants.len();
 }
 
-// The last tenant is taken out while the new one is built, since the two may share objects.
+// Builds a tenant that shares no objects.
+fn build_alone<N: Naming>(
+    alloc: Global,
+    pool: &mut Pool<N>,
+    slots: &[Slot],
+    names: &[Name],
+    known: &KnownSums,
+    tenant: &RawTenant,
+) -> Result<Tenant, Memory>
+    requires live { All (IsLive pool.old) slots.now }
+    requires room { HasHoldsLeftBeside pool.old [] }
+    requires named { names.now ≡ names_of N.digest_of (objects_at pool.old slots.now) }
+    requires known { KnowsSums N.digest_of (objects_at pool.old slots.now) known.now }
+    requires checked { IsChecked N.digest_of (objects_at pool.old slots.now)
+        (tenant_of tenant.now) }
+    ensures builds { IfOk result (λ t. Builds N.digest_of (objects_at pool.old slots.now)
+        (tenant_of tenant.now) pool.old pool.new t) }
+{
+    let mut none = Table::new(alloc);
+    build_tenant(alloc, pool, slots, names, known, tenant, &mut none, 0)
+}
+
+// Builds a tenant that shares objects with one of these.
+fn build_beside<N: Naming>(
+    alloc: Global,
+    pool: &mut Pool<N>,
+    slots: &[Slot],
+    names: &[Name],
+    known: &KnownSums,
+    tenants: &mut Vec<Tenant>,
+    shared: Shared,
+    tenant: &RawTenant,
+) -> Result<Tenant, Memory>
+    requires under { AreUnder N.digest_of slots.now pool.old tenants.old.items }
+    requires shared { SharesFront slots.now tenant.now.numbers.items tenants.old.items shared }
+    requires live { All (IsLive pool.old) slots.now }
+    requires room { HasHoldsLeftBeside pool.old [] }
+    requires named { names.now ≡ names_of N.digest_of (objects_at pool.old slots.now) }
+    requires known { KnowsSums N.digest_of (objects_at pool.old slots.now) known.now }
+    requires checked { IsChecked N.digest_of (objects_at pool.old slots.now)
+        (tenant_of tenant.now) }
+    ensures same { tenants.new.items ≡ tenants.old.items }
+    ensures builds { IfOk result (λ t. Builds N.digest_of (objects_at pool.old slots.now)
+        (tenant_of tenant.now) pool.old pool.new t) }
+{
+    match tenants.get_mut(shared.place) {
+        Some(other) => {
+            let table = &mut other.table;
+            build_tenant(
+                alloc,
+                pool,
+                slots,
+                names,
+                known,
+                tenant,
+                table,
+                shared.count,
+            )
+        }
+        None => build_alone(alloc, pool, slots, names, known, tenant),
+    }
+}
+
+fn build_next<N: Naming>(
+    alloc: Global,
+    pool: &mut Pool<N>,
+    slots: &[Slot],
+    names: &[Name],
+    known: &KnownSums,
+    tenants: &mut Vec<Tenant>,
+    shared: Option<Shared>,
+    tenant: &RawTenant,
+) -> Result<Tenant, Memory>
+    requires under { AreUnder N.digest_of slots.now pool.old tenants.old.items }
+    requires shared { IfSome shared
+        (SharesFront slots.now tenant.now.numbers.items tenants.old.items) }
+    requires named { names.now ≡ names_of N.digest_of (objects_at pool.old slots.now) }
+    requires known { KnowsSums N.digest_of (objects_at pool.old slots.now) known.now }
+    requires checked { IsChecked N.digest_of (objects_at pool.old slots.now)
+        (tenant_of tenant.now) }
+    ensures same { tenants.new.items ≡ tenants.old.items }
+    ensures builds { IfOk result (λ t. Builds N.digest_of (objects_at pool.old slots.now)
+        (tenant_of tenant.now) pool.old pool.new t) }
+{
+    has_room(pool, slots, tenants);
+    match shared {
+        Some(shared) => build_beside(alloc, pool, slots, names, known, tenants, shared, tenant),
+        None => build_alone(alloc, pool, slots, names, known, tenant),
+    }
+}
+
 fn add_tenant<N: Naming>(
     alloc: Global,
     pool: &mut Pool<N>,
     slots: &[Slot],
     names: &[Name],
     known: &KnownSums,
+    relatives: &mut Relatives,
     tenants: &mut Vec<Tenant>,
     tenant: &RawTenant,
 ) -> Result<(), Memory>
@@ -88,15 +192,9 @@ fn add_tenant<N: Naming>(
     ensures { OnOk result (Adds N.digest_of slots.now pool.old tenants.old.items
         (tenant_of tenant.now ∷ []) pool.new tenants.new.items) }
 {
-    has_room(pool, slots, tenants);
-    let Some(mut last) = tenants.pop() else {
-        let mut none = Table::new(alloc);
-        let built = build_tenant(alloc, pool, slots, names, known, tenant, &mut none)?;
-        tenants.push(built)?;
-        return Ok(());
-    };
-    let built = build_tenant(alloc, pool, slots, names, known, tenant, &mut last.table)?;
-    tenants.push(last)?;
+    let shared = relatives.choose(slots, tenants, &tenant.numbers);
+    relatives.note(&tenant.numbers, shared)?;
+    let built = build_next(alloc, pool, slots, names, known, tenants, shared, tenant)?;
     tenants.push(built)?;
     Ok(())
 }
@@ -118,8 +216,18 @@ fn add_tenants<N: Naming>(
     ensures { OnOk result (Adds N.digest_of slots.now pool.old tenants.old.items
         (tenants_of all.now) pool.new tenants.new.items) }
 {
+    let mut relatives = Relatives::new(alloc);
     for tenant in all {
-        add_tenant(alloc, pool, slots, names, known, tenants, tenant)?;
+        add_tenant(
+            alloc,
+            pool,
+            slots,
+            names,
+            known,
+            &mut relatives,
+            tenants,
+            tenant,
+        )?;
     }
     Ok(())
 }

@@ -12,8 +12,8 @@ ghost use Rattle.pool_file.specs.Lent.{raw_contents, Lists};
 ghost use Rattle.pool_file.specs.Slots.{Collects};
 
 use crate::content::{LentContent, lent_content};
-use crate::marks::{is_marked, mark};
 use crate::order::in_order;
+use crate::seen_slots::{is_marked, mark};
 use crate::tenant_view::TenantView;
 use content_pool::{Pool, Slot};
 use git_names::{Memory, Naming};

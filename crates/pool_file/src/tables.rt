@@ -1,84 +1,48 @@
 //! The table of a tenant, from the numbers of its objects in the file.
 
-ghost use Rattle.std.specs.Prelude.{◌≡◌, ◌<◌, ◌≤◌, [], length, All, IfOk, OnOk, None, Some, slice_get};
+ghost use Rattle.std.specs.Prelude.{◌≡◌, ◌<◌, ◌≤◌, ℕ, List, [], length, All, IfOk, OnOk, None, Some, slice_get};
 ghost use Rattle.std.specs.Bool.{OnTrue};
 ghost use Rattle.std.specs.Option.{option_map};
-ghost use Rattle.content_pool.specs.Pool.{Cells, IsLive, content};
+ghost use Rattle.content_pool.specs.Pool.{IsLive, content};
 ghost use Rattle.git_model.specs.Content.{name_by};
 ghost use Rattle.git_model.specs.GoodRepository.{objects_limit};
 ghost use Rattle.tenant_tables.specs.Objects.{objects};
 ghost use Rattle.tenant_tables.specs.Room.{HasHoldsLeftBeside};
-ghost use Rattle.tenant_tables.specs.Trees.{IsSummed};
 ghost use Rattle.tenant_tables.specs.IsBackedBy.{IsBackedBy, PreservesOthers};
 ghost use Rattle.pool_file_checks.specs.Checks.{Passes};
 ghost use Rattle.pool_file_checks.specs.Objects.{object_checks};
 ghost use Rattle.pool_file_checks.specs.Own.{own_objects, names_of, rows_of, AreDistinct};
 ghost use Rattle.pool_file_checks.specs.Quick.{AreSums, KnowsSums};
-ghost use Rattle.pool_file_checks.specs.Sums.{Fits, SameSums, TreesFit, sums_with};
+ghost use Rattle.pool_file_checks.specs.Sums.{Sums, TreesFit};
 ghost use Rattle.pool_file.specs.Building.{objects_at};
-ghost use Rattle.pool_file.specs.Tables.{AreNoted, BeginAlike, CanAdd, CanLoad, Loads, Starts, known_sum, sums_on, with_sum};
+ghost use Rattle.pool_file.specs.Tables.{BeginAlike, CanAdd, CanLoad, Loads, Starts, known_sum, sums_on};
 
+use crate::summing::summary_after;
 use content_pool::{Pool, Slot};
 use git_names::{Memory, Name, Naming};
 use git_objects::Kind;
-use indexmap::IndexMap;
-use pool_file_checks::{KnownSums, add_sum};
-use pool_file_format::Fault;
+use pool_file_checks::KnownSums;
 use std::alloc::Global;
 use tenant_tables::{Summary, Table};
 
-// Notes the sum of an object that fits after the trees so far.
-fn note_sum(
-    alloc: Global,
-    sums: &mut IndexMap<Name, Summary>,
-    id: Name,
-    kind: Kind,
-    bytes: &[u8],
-) -> Result<(), Memory>
-    requires { Fits kind bytes.now sums.old.entries }
-    ensures { OnOk result
-        (SameSums sums.new.entries (sums_with kind id bytes.now sums.old.entries)) }
-{
-    match add_sum(alloc, sums, id, kind, bytes) {
-        Err(Fault::Memory) => Err(Memory),
-        answer => {
-            answer.unwrap();
-            Ok(())
-        }
-    }
-}
-
-// Notes the sum that a table has of an object; `None` if it is not a tree.
-fn note_known(
-    sums: &mut IndexMap<Name, Summary>,
-    id: Name,
-    known: Option<Summary>,
-) -> Result<(), Memory>
-    ensures { OnOk result (SameSums sums.new.entries (with_sum id known sums.old.entries)) }
-{
-    if let Some(sum) = known {
-        sums.insert(id, sum)?;
-    }
-    Ok(())
-}
-
-// Adds the object with this name, whose content lies in this slot.
+// Adds the object with this name, whose content lies in this slot. If it is a tree, the table has
+// those of its directories.
 fn load_object<N: Naming>(
     alloc: Global,
     pool: &mut Pool<N>,
     table: &mut Table,
-    sums: &mut IndexMap<Name, Summary>,
     id: Name,
     slot: Slot,
 ) -> Result<(), Memory>
     requires named { id ≡ name_by N.digest_of (content pool.old slot) }
-    requires can { CanLoad N.digest_of pool.old table.old.entries sums.old.entries slot }
-    ensures { OnOk result (Loads N.digest_of slot pool.old table.old.entries sums.old.entries
-        pool.new table.new.entries sums.new.entries) }
+    requires can { (sums : Sums) × CanLoad N.digest_of pool.old table.old.entries sums slot }
+    ensures { (can : (sums : Sums) × CanLoad N.digest_of pool.old table.old.entries sums slot)
+        → OnOk result (Loads N.digest_of slot pool.old table.old.entries can.0 pool.new
+        table.new.entries (sums_on N.digest_of (content pool.old slot) can.0)) }
 {
     let (kind, bytes) = pool.get(slot);
-    note_sum(alloc, sums, id, kind, bytes)?;
-    table.add_held(pool, id, slot, sums.get(&id).copied())
+    let sum = summary_after(alloc, table, kind, bytes)?;
+    table.add_held(pool, id, slot, sum)
 }
 
 // Whether the object at this place of a table lies in this slot.
@@ -92,8 +56,8 @@ fn is_at(table: &Table, place: usize, slot: Slot) -> bool
     }
 }
 
-// How many of the first objects of a table lie in the slots of the first numbers.
-fn common_front(table: &Table, slots: &[Slot], numbers: &[u64]) -> usize
+/// How many of the first objects of a table lie in the slots of the first numbers.
+pub fn common_front(table: &Table, slots: &[Slot], numbers: &[u64]) -> usize
     requires { All (λ n. n < length slots.now) numbers.now }
     ensures { BeginAlike table.now.entries slots.now numbers.now result }
 {
@@ -106,41 +70,26 @@ fn common_front(table: &Table, slots: &[Slot], numbers: &[u64]) -> usize
     numbers.len()
 }
 
-// The table to which the objects of these numbers are added: as many of the first as the other
-// table has alike, if that is more than half of them, and else none.
+// The table to which objects are added: so many of the first of another one, or none, with room for
+// `room` objects.
 fn start_table<N: Naming>(
     alloc: Global,
     pool: &mut Pool<N>,
-    slots: &[Slot],
-    numbers: &[u64],
     other: &mut Table,
+    count: usize,
+    room: usize,
 ) -> Result<Table, Memory>
     requires stands { IsBackedBy N.digest_of pool.old other.old.entries }
     requires room { HasHoldsLeftBeside pool.old [] }
-    requires numbers { All (λ n. n < length slots.now) numbers.now }
+    requires within { count ≤ length other.old.entries }
     ensures same { other.new ≡ other.old }
-    ensures ok { IfOk result
-        (λ table. Starts N.digest_of slots.now numbers.now pool.old pool.new table) }
+    ensures ok { (slots numbers : List ℕ) → BeginAlike other.old.entries slots numbers count
+        → IfOk result (λ table. Starts N.digest_of slots numbers pool.old pool.new table) }
 {
-    let count = common_front(other, slots, numbers);
-    if count <= numbers.len() / 2 {
-        return Ok(Table::new(alloc));
+    if count == 0 {
+        return Table::with_capacity(alloc, room);
     }
     other.share(alloc, pool, count)
-}
-
-// The sums of the trees of a table.
-fn sums_of(alloc: Global, table: &Table) -> Result<IndexMap<Name, Summary>, Memory>
-    requires { (pool : Cells) × IsSummed pool table.now.entries }
-    ensures { IfOk result (λ sums. AreNoted sums.entries table.now.entries) }
-{
-    let mut sums = IndexMap::new(alloc);
-    for place in 0..table.len() {
-        if let Some(found) = table.at(place) {
-            note_known(&mut sums, found.0, table.summary(&found.0))?;
-        }
-    }
-    Ok(sums)
 }
 
 // What a table has of an object of this kind: the summary, if it is a tree.
@@ -212,14 +161,12 @@ fn known_table<N: Naming>(
     Ok(made)
 }
 
-// Whether the other table is empty, and the summaries of all objects with these numbers are known.
-fn are_known(known: &KnownSums, numbers: &[u64], other: &Table) -> bool
+// Whether the summaries of all objects with these numbers are known.
+fn are_known(known: &KnownSums, numbers: &[u64]) -> bool
     ensures size { OnTrue result (length known.now.sums.items ≡ length numbers.now) }
     ensures numbers { OnTrue result (known.now.numbers.items ≡ numbers.now) }
 {
-    other.len() == 0
-        && known.sums.as_slice().len() == numbers.len()
-        && known.numbers.as_slice() == numbers
+    known.sums.as_slice().len() == numbers.len() && known.numbers.as_slice() == numbers
 }
 
 /// A table of the objects with these numbers, in their order and all committed. `slots` are those
@@ -229,9 +176,9 @@ fn are_known(known: &KnownSums, numbers: &[u64], other: &Table) -> bool
 /// The numbers are those of a tenant of a file that passed its checks. `Memory` (90) if there is no
 /// memory for the table; the pool may then hold some contents once more.
 ///
-/// `other` is the table of another tenant, or an empty one. If it begins with more than half of
-/// these objects, in the same order, the tables share them in memory. If it is empty and `known` has
-/// the summaries of all of these objects, no tree is read.
+/// The first `count` of these objects are also those of `other`, the table of another tenant, and
+/// the tables share them in memory. If there are none and `known` has the summaries of all objects,
+/// no tree is read.
 pub fn load_table<N: Naming>(
     alloc: Global,
     pool: &mut Pool<N>,
@@ -240,6 +187,7 @@ pub fn load_table<N: Naming>(
     known: &KnownSums,
     numbers: &[u64],
     other: &mut Table,
+    count: usize,
 ) -> Result<Table, Memory>
     requires live { All (IsLive pool.old) slots.now }
     requires room { HasHoldsLeftBeside pool.old [] }
@@ -253,6 +201,7 @@ pub fn load_table<N: Naming>(
         (own_objects N.digest_of (objects_at pool.old slots.now) numbers.now) }
     requires known { KnowsSums N.digest_of (objects_at pool.old slots.now) known.now }
     requires other { IsBackedBy N.digest_of pool.old other.old.entries }
+    requires alike { BeginAlike other.old.entries slots.now numbers.now count }
     ensures stands { IfOk result (λ table. IsBackedBy N.digest_of pool.new table.entries) }
     ensures others { IfOk result (λ table. PreservesOthers pool.old [] pool.new table.entries) }
     ensures objects { IfOk result (λ table. objects pool.new table.entries
@@ -260,18 +209,14 @@ pub fn load_table<N: Naming>(
     ensures committed { IfOk result (λ table. table.committed ≡ length table.entries) }
     ensures same { other.new ≡ other.old }
 {
-    if are_known(known, numbers, other) {
+    if count == 0 && are_known(known, numbers) {
         return known_table(alloc, pool, slots, names, numbers, &known.sums);
     }
-    let mut table = start_table(alloc, pool, slots, numbers, other)?;
-    if table.len() == numbers.len() {
-        return Ok(table);
-    }
-    let mut sums = sums_of(alloc, &table)?;
+    let mut table = start_table(alloc, pool, other, count, numbers.len())?;
     for position in table.len()..numbers.len() {
         let place = numbers[position] as usize;
         let (id, slot) = (names[place], slots[place]);
-        load_object(alloc, pool, &mut table, &mut sums, id, slot)?;
+        load_object(alloc, pool, &mut table, id, slot)?;
     }
     table.commit();
     Ok(table)

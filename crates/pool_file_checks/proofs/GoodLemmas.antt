@@ -29,7 +29,7 @@ use Rattle.pool_file_format.specs.Format.{RawObject}
 use Rattle.pool_file_checks.specs.Objects.{IsContent, IsTreeText}
 use Rattle.pool_file_checks.specs.Own.{content_at, Rows, objects_in, AreDistinct}
 use Rattle.pool_file_checks.specs.Sums.{Sums, Fits, FitsAfter, HasFiles, TreesFit, sum_of_entry, sum_of_tree, sums_with}
-use Rattle.pool_file_checks.specs.Quick.{Joins, AreGood, AreGoodBefore, AreKept, AreSums, HasSum, IsGoodAt}
+use Rattle.pool_file_checks.specs.Quick.{Joins, AreGood, AreGoodBefore, AreGoodFirst, AreKept, AreSums, HasSum, IsGoodAt}
 use Rattle.pool_file_checks.specs.Connecting.{EntryStands}
 use Rattle.pool_file_checks.proofs.ConnectLemmas.{tree_refers}
 use Rattle.pool_file_checks.proofs.OwnObjects.{ids, ids_of_rows, place_at, apart}
@@ -278,6 +278,24 @@ before_on os place old new s j = record { size = long; each = one_more P place e
         subst (λ (x : Summary). IsGoodAt os place (take place new) (object_at place os).content.kind (object_at place os).content.bytes x) (sym sum)
         (subst (λ (xs : List Summary). IsGoodAt os place xs (object_at place os).content.kind (object_at place os).content.bytes j.sum) (sym kept)
         j.good)
+
+-- The same of those that are good and have contents of their kinds.
+pub first_on : (os : List Object) (place : ℕ) (old new : List Summary) (b : Bool) (most : ℕ) → AreGoodFirst os old → length old ≡ place → place < most → b ≡ true
+    → OnTrue b (IsContent (object_at place os).content)
+    → OnTrue b (Joins os place (object_at place os).content.kind (object_at place os).content.bytes old new)
+    → AreGoodFirst os new × ((length new ≡ place + 1) × (place + 1 ≤ most))
+first_on os place old new b most g size lt holds content joins =
+    let j : Joins os place (object_at place os).content.kind (object_at place os).content.bytes old new = OnTrue_at holds joins in
+    let all = before_on os place old new (subst (λ (n : ℕ). AreGoodBefore os n old) size g.before) j in
+    let long : length new ≡ place + 1 = all.size in (
+      subst (λ (n : ℕ). AreGoodBefore os n new × ((i : ℕ) → i < n → IsContent (object_at i os).content) → AreGoodFirst os new) long
+          (λ h. record { before = h.0; contents = h.1 }) (
+            all,
+            one_more (λ i. IsContent (object_at i os).content) place
+                (subst (λ (n : ℕ). (i : ℕ) → i < n → IsContent (object_at i os).content) size g.contents) (OnTrue_at holds content),
+          ),
+      (long, omega (arith, lt)),
+    )
 
 pub good_on : (os : List Object) (place : ℕ) (old new : List Summary) (b : Bool) → IsDistinct bytes_eq (ids os) → place < length os
     → GoodSoFar os place old → b ≡ true

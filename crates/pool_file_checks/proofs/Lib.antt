@@ -10,6 +10,7 @@ pub mod AlikeLemmas
 pub mod AlikeEntries
 pub mod WholeLemmas
 pub mod QuickLemmas
+pub mod FrontLemmas
 pub mod Members
 pub mod Keys
 pub mod Rising

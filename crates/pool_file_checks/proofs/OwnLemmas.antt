@@ -15,7 +15,7 @@ use Rattle.pool_file_format.specs.declared.fault.Fault.TheVariants as fault
 use Rattle.pool_file_format.specs.Format.{RawObject}
 use Rattle.pool_file_format.specs.Shown.{object_of, objects_of}
 use Rattle.pool_file_checks.specs.Own.{kind_of, content_of, content_at, names_of, Rows, row, rows_of, AreDistinct}
-use Rattle.pool_file_checks.specs.Indexing.{Adds, Indexes}
+use Rattle.pool_file_checks.specs.Indexing.{Adds, Indexes, IsIndexed}
 
 -- ---- contents by number
 
@@ -80,6 +80,10 @@ twice (x ∷ xs) id n ys there d = by (λ some. twice xs id n ys some d.1) (byte
 -- The rows of the first numbers stand in the index, under distinct names.
 abbrev pub Built : List (List ℕ) → List ℕ → ℕ → Rows → Type 0
 Built names numbers i rows = (rows ≡ rows_of names (take i numbers)) × AreDistinct rows
+
+pub none_indexed : (names : List (List ℕ)) (numbers : List ℕ) (rows : Rows) → rows ≡ [] → IsIndexed names numbers rows
+unfolding IsDistinct
+none_indexed names numbers rows none = subst (λ (rs : Rows). IsIndexed names numbers rs) (sym none) (refl, tt)
 
 pub built_on : (names : List (List ℕ)) (numbers : List ℕ) (i j : ℕ) (old new : Rows) → j ≡ suc i → i < length numbers
     → Built names numbers i old

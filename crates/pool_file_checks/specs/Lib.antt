@@ -10,6 +10,7 @@ pub mod FileRefs
 pub mod Held
 pub mod Whole
 pub mod Quick
+pub mod Fronts
 pub mod Alike
 pub mod Repositories
 pub mod Saved

@@ -48,6 +48,11 @@ pub record AreGoodBefore (os : List Object) (place : ℕ) (kept : List Summary) 
   pub each : (i : ℕ) → i < place → IsGoodAt os i (take i kept) (object_at i os).content.kind
       (object_at i os).content.bytes (slice_index_or kept i no_files)
 
+-- The first objects have contents of their kinds and are good, and these are their summaries.
+pub record AreGoodFirst (os : List Object) (kept : List Summary) : Type 0 where
+  pub before : AreGoodBefore os (length kept) kept
+  pub contents : (i : ℕ) → i < length kept → IsContent (object_at i os).content
+
 -- The object is good at this place, and its summary was added.
 pub record Joins (os : List Object) (place : ℕ) (k : Kind) (bytes : List ℕ)
     (old new : List Summary) : Type 0 where

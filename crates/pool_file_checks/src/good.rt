@@ -1,6 +1,6 @@
 //! A tenant's objects, each read once: whether all of them are good.
 
-ghost use Rattle.std.specs.Prelude.{◌≡◌, ◌≢◌, ◌<◌, [], IfOk, IfSome, IsSomeAnd, All};
+ghost use Rattle.std.specs.Prelude.{◌≡◌, ◌≢◌, ◌≤◌, length, IfOk, IfSome, IsSomeAnd, All};
 ghost use Rattle.std.specs.Bool.{OnTrue};
 ghost use Rattle.std.specs.Map.{lookup};
 ghost use Rattle.std.specs.Str.{bytes_eq};
@@ -11,8 +11,8 @@ ghost use Rattle.git_objects.specs.Parts.{entry_of, entries_of};
 ghost use Rattle.tenant_tables.specs.Trees.{below as below_of, one_file as one_file_of};
 ghost use Rattle.pool_file_checks.specs.Connecting.{EntryStands};
 ghost use Rattle.pool_file_checks.specs.Objects.{IsText, IsContent};
-ghost use Rattle.pool_file_checks.specs.Own.{objects_in, AreDistinct};
-ghost use Rattle.pool_file_checks.specs.Quick.{AreGood, AreGoodBefore, AreKept, AreSums, HasSum, IsGoodAt, Joins};
+ghost use Rattle.pool_file_checks.specs.Own.{objects_in};
+ghost use Rattle.pool_file_checks.specs.Quick.{AreGoodBefore, AreGoodFirst, AreKept, HasSum, IsGoodAt, Joins};
 ghost use Rattle.pool_file_checks.specs.Sums.{Fits, FitsAfter, HasFiles, IsWithin, Sums, sum_of_entry, sum_of_tree};
 ghost use Rattle.pool_file_format.specs.Shown.{objects_of};
 
@@ -289,29 +289,29 @@ fn add_at(
     Ok(true)
 }
 
-/// The summaries of a tenant's objects, in the tenant's order, if all are good: each has contents of
-/// its kind within the limits, what it refers to stands before it, and each tree fits after those
-/// before it. `index` has the numbers of the tenant's objects under their names, in the tenant's
-/// order, and `objects` are all objects of the file.
+/// Adds the summaries of a tenant's other objects to those of its first ones, if all are good: each
+/// has contents of its kind within the limits, what it refers to stands before it, and each tree
+/// fits after those before it. `index` has the numbers of the tenant's objects under their names, in
+/// the tenant's order, and `objects` are all objects of the file.
 ///
-/// `None` says nothing. `Memory` (90) if there is no memory to read an object or for the summary of
-/// each object.
-pub fn good_sums(
+/// `false` says nothing. `Memory` (90) if there is no memory to read an object or for the summary of
+/// each object. Some summaries may then have been added.
+pub fn add_sums(
     alloc: Global,
     objects: &[RawObject],
     index: &IndexMap<Name, usize>,
-) -> Result<Option<Vec<Summary>>, Memory>
-    ensures good { AreDistinct index.now.entries → IfOk result (λ r. IfSome r (λ _.
-        AreGood (objects_in (objects_of objects.now) index.now.entries))) }
-    ensures sums { AreDistinct index.now.entries → IfOk result (λ r. IfSome r (λ sums.
-        AreSums [] sums.items (objects_in (objects_of objects.now) index.now.entries))) }
+    sums: &mut Vec<Summary>,
+    last: &mut LastTrees,
+) -> Result<bool, Memory>
+    ensures { AreGoodFirst (objects_in (objects_of objects.now) index.now.entries) sums.old.items
+        → length sums.old.items ≤ length index.now.entries → IfOk result (λ b. OnTrue b
+        (AreGoodFirst (objects_in (objects_of objects.now) index.now.entries) sums.new.items
+        × (length sums.new.items ≡ length index.now.entries))) }
 {
-    let mut sums = Vec::with_capacity(alloc, index.len())?;
-    let mut last = LastTrees::new(alloc, index.len())?;
-    for place in 0..index.len() {
-        if !add_at(alloc, objects, index, place, &mut sums, &mut last)? {
-            return Ok(None);
+    for place in sums.len()..index.len() {
+        if !add_at(alloc, objects, index, place, sums, last)? {
+            return Ok(false);
         }
     }
-    Ok(Some(sums))
+    Ok(true)
 }

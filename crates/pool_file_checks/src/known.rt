@@ -33,17 +33,17 @@ impl KnownSums {
         &mut self,
         alloc: Global,
         numbers: &[u64],
-        sums: Vec<Summary>,
+        sums: &[Summary],
     ) -> Result<(), Memory>
         ensures { (digest : List ℕ → List ℕ) (os : List RawObject) → KnowsSums digest os self.old
-            → AreSums [] sums.items (own_objects digest os numbers.now)
+            → AreSums [] sums.now (own_objects digest os numbers.now)
             → OnOk result (KnowsSums digest os self.new) }
     {
         if !self.sums.is_empty() {
             return Ok(());
         }
         self.numbers = Vec::from_slice(alloc, numbers)?;
-        self.sums = sums;
+        self.sums = Vec::from_slice(alloc, sums)?;
         Ok(())
     }
 }

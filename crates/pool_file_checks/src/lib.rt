@@ -7,6 +7,7 @@
 
 mod alike;
 mod contents;
+mod fronts;
 mod good;
 mod held;
 mod judged;

@@ -3,7 +3,7 @@
 ghost use Rattle.std.specs.Prelude.{◌≡◌, ◌<◌, [], length, All, slice_index_or};
 ghost use Rattle.std.specs.Bool.{OnTrue};
 ghost use Rattle.pool_file_checks.specs.Own.{rows_of};
-ghost use Rattle.pool_file_checks.specs.Indexing.{Adds, Indexes};
+ghost use Rattle.pool_file_checks.specs.Indexing.{Adds, Indexes, IsIndexed};
 ghost use Rattle.pool_file_format.specs.Taking.{shown};
 
 use git_names::Name;
@@ -34,6 +34,25 @@ fn add_object(index: &mut IndexMap<Name, usize>, names: &[Name], number: u64) ->
     }
 }
 
+/// Adds the numbers of a tenant's other objects to an index of its first ones.
+///
+/// `Refused` with `NotCanonical` (64) if two of the objects have one name, whatever their contents.
+/// `Memory` (90) if there is no memory for the index. Some objects may then have been added.
+pub fn index_rest(
+    index: &mut IndexMap<Name, usize>,
+    names: &[Name],
+    numbers: &[u64],
+) -> Result<(), Fault>
+    ensures { IsIndexed names.now numbers.now index.old.entries
+        → All (λ n. n < length names.now) numbers.now
+        → Indexes (rows_of names.now numbers.now) (shown (λ _. index.new.entries) result) }
+{
+    for place in index.len()..numbers.len() {
+        add_object(index, names, numbers[place])?;
+    }
+    Ok(())
+}
+
 /// Whether these are the same numbers.
 pub fn are_same(numbers: &[u64], others: &[u64]) -> bool
     ensures { OnTrue result (numbers.now ≡ others.now) }
@@ -56,8 +75,6 @@ pub fn index_objects(
 {
     let most = numbers.len().min(names.len());
     let mut index = IndexMap::with_capacity(alloc, most)?;
-    for number in numbers {
-        add_object(&mut index, names, *number)?;
-    }
+    index_rest(&mut index, names, numbers)?;
     Ok(index)
 }

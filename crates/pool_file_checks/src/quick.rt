@@ -3,30 +3,29 @@
 //! `Ok` says that all checks of a file hold. A refusal only says that they do not, or that the look
 //! does not tell: which refusal is the first is left to the checks in their order.
 
-ghost use Rattle.std.specs.Prelude.{◌≡◌, ◌↔◌, ◌<◌, ℕ, List, [], length, map, All, IsTrue, None, IfOk, OnOk};
+ghost use Rattle.std.specs.Prelude.{◌≡◌, ◌↔◌, ℕ, List, map, All, IsTrue, None, IfOk, OnOk};
 ghost use Rattle.std.specs.Bool.{OnTrue};
 ghost use Rattle.std.specs.Option.{option_map};
 ghost use Rattle.pool_file_checks.specs.Checks.{Passes};
 ghost use Rattle.pool_file_checks.specs.FileRefs.{AreRising};
+ghost use Rattle.pool_file_checks.specs.Fronts.{IsFront};
 ghost use Rattle.pool_file_checks.specs.Held.{numbers_of};
 ghost use Rattle.pool_file_checks.specs.Objects.{IsContent, object_key};
-ghost use Rattle.pool_file_checks.specs.Own.{content_at, names_of, own_objects};
-ghost use Rattle.pool_file_checks.specs.Quick.{AreFound, AreSums, HasKind, KnowsSums};
+ghost use Rattle.pool_file_checks.specs.Own.{content_at, names_of};
+ghost use Rattle.pool_file_checks.specs.Quick.{HasKind, KnowsSums};
 ghost use Rattle.pool_file_checks.specs.Whole.{one_tenant_checks, tenant_checks, file_checks};
 ghost use Rattle.pool_file_format.specs.Shown.{object_of, objects_of, tenant_of, tenants_of, file_of};
 
 use crate::contents::kind_from;
-use crate::good::good_sums;
+use crate::fronts::{Front, take_front};
 use crate::held::check_held;
 use crate::judging::is_after;
 use crate::known::KnownSums;
-use crate::own::{are_same, index_objects};
 use crate::refs::check_refs;
 use crate::tenants::{check_name, check_numbers};
 use git_names::Name;
 use pool_file_format::{Fault, RawFile, RawObject, RawTenant, Refusal};
 use std::alloc::Global;
-use tenant_tables::Summary;
 
 fn has_kind(object: &RawObject) -> bool
     ensures { OnTrue result (HasKind (object_of object.now)) }
@@ -71,84 +70,31 @@ fn are_in_order(objects: &[RawObject]) -> bool
     have_kinds(objects) && are_rising(objects)
 }
 
-// Passes the objects of a tenant, and answers their summaries.
-fn pass_own(
-    alloc: Global,
-    objects: &[RawObject],
-    names: &[Name],
-    numbers: &[u64],
-) -> Result<Vec<Summary>, Fault>
-    ensures found { (digest : List ℕ → List ℕ)
-        → names.now ≡ names_of digest (objects_of objects.now)
-        → All (λ n. n < length objects.now) numbers.now
-        → OnOk result (AreFound digest (objects_of objects.now) numbers.now) }
-    ensures sums { (digest : List ℕ → List ℕ)
-        → names.now ≡ names_of digest (objects_of objects.now)
-        → All (λ n. n < length objects.now) numbers.now
-        → IfOk result (λ sums. AreSums [] sums.items
-        (own_objects digest (objects_of objects.now) numbers.now)) }
-{
-    let index = index_objects(alloc, names, numbers)?;
-    let Some(sums) = good_sums(alloc, objects, &index)? else {
-        return Err(Fault::Refused(Refusal::BadObject));
-    };
-    Ok(sums)
-}
-
-// The same, after the objects of the numbers in `passed`: those are not read again, and no summary
-// of them is answered.
-fn pass_unless_passed(
-    alloc: Global,
-    objects: &[RawObject],
-    names: &[Name],
-    passed: &[u64],
-    numbers: &[u64],
-) -> Result<Vec<Summary>, Fault>
-    ensures found { (digest : List ℕ → List ℕ)
-        → names.now ≡ names_of digest (objects_of objects.now)
-        → All (λ n. n < length objects.now) numbers.now
-        → AreFound digest (objects_of objects.now) passed.now
-        → OnOk result (AreFound digest (objects_of objects.now) numbers.now) }
-    ensures sums { (digest : List ℕ → List ℕ)
-        → names.now ≡ names_of digest (objects_of objects.now)
-        → All (λ n. n < length objects.now) numbers.now
-        → IfOk result (λ sums. AreSums [] sums.items
-        (own_objects digest (objects_of objects.now) numbers.now)) }
-{
-    if are_same(passed, numbers) {
-        return Ok(Vec::new(alloc));
-    }
-    pass_own(alloc, objects, names, numbers)
-}
-
 fn pass_tenant(
     alloc: Global,
     version: u32,
     objects: &[RawObject],
     names: &[Name],
     last: Option<&[u8]>,
-    passed: &[u64],
+    front: &mut Front,
     tenant: &RawTenant,
-) -> Result<Vec<Summary>, Fault>
+) -> Result<(), Fault>
     ensures checks { (digest : List ℕ → List ℕ)
         → names.now ≡ names_of digest (objects_of objects.now)
-        → AreFound digest (objects_of objects.now) passed.now
+        → IsFront digest (objects_of objects.now) front.old
         → OnOk result (Passes (one_tenant_checks digest version (objects_of objects.now)
         (option_map (λ o. o.now) last.entry) (tenant_of tenant.now))) }
-    ensures found { (digest : List ℕ → List ℕ)
+    ensures front { (digest : List ℕ → List ℕ)
         → names.now ≡ names_of digest (objects_of objects.now)
-        → AreFound digest (objects_of objects.now) passed.now
-        → OnOk result (AreFound digest (objects_of objects.now) (tenant_of tenant.now).numbers) }
-    ensures sums { (digest : List ℕ → List ℕ)
-        → names.now ≡ names_of digest (objects_of objects.now)
-        → IfOk result (λ sums. AreSums [] sums.items
-        (own_objects digest (objects_of objects.now) (tenant_of tenant.now).numbers)) }
+        → IsFront digest (objects_of objects.now) front.old
+        → OnOk result (IsFront digest (objects_of objects.now) front.new
+        × (front.new.numbers.items ≡ (tenant_of tenant.now).numbers)) }
 {
     check_name(version, last, tenant)?;
     check_numbers(objects.len() as u64, tenant)?;
-    let sums = pass_unless_passed(alloc, objects, names, passed, &tenant.numbers)?;
+    front.pass(alloc, objects, names, &tenant.numbers)?;
     check_refs(alloc, objects, tenant)?;
-    Ok(sums)
+    Ok(())
 }
 
 // Passes the tenants, and answers the summaries of the first one that has any.
@@ -173,19 +119,19 @@ fn pass_tenants(
 {
     let mut known = KnownSums::none(alloc);
     let mut last: Option<&[u8]> = None;
-    let mut passed: &[u64] = &[];
+    let mut fronts = Vec::new(alloc);
     for tenant in tenants {
-        let sums = pass_tenant(alloc, version, objects, names, last, passed, tenant)?;
-        known.note(alloc, &tenant.numbers, sums)?;
+        let mut front = take_front(alloc, &mut fronts, objects.len(), &tenant.numbers)?;
+        pass_tenant(alloc, version, objects, names, last, &mut front, tenant)?;
+        known.note(alloc, &tenant.numbers, front.sums())?;
         last = Some(tenant.name.as_slice());
-        passed = tenant.numbers.as_slice();
+        fronts.push(front)?;
     }
     Ok(known)
 }
 
 /// Passes a file in which all is good, and answers the summaries of a tenant's objects. `names` are the names of its objects, as `name_objects`
-/// answers them. If a tenant has the same numbers as the tenant before, their objects are read
-/// once.
+/// answers them. Objects with which several tenants begin are mostly read once.
 ///
 /// A refusal only says that the look does not tell; it need not be the first one of the file.
 /// `Memory` (90) if there is no memory for what is read or marked.

@@ -132,7 +132,7 @@ pub fn judge_file(alloc: Global, names: &[Name], file: &RawFile) -> Result<Known
 }
 
 /// Judges what a pool file says. `names` are the names of its objects, as `name_objects` answers
-/// them. If a tenant has the same numbers as the tenant before, their objects are judged once.
+/// them. Objects with which several tenants begin are mostly judged once.
 ///
 /// - `Refused` with the first fault. First come the objects: `BadObject` (65) and `NotCanonical`
 ///   (64), as in `check_objects`. Then comes each tenant in turn, with the refusals of

@@ -45,17 +45,17 @@ use Rattle.stream_grammar.proofs.Filled.{by_test}
 use Rattle.open_commits.specs.OpenCommit.{OpenCommit, begun as begun_commit}
 use Rattle.open_commits.specs.Changes.{all_deleted, contents_put, copied_to, deleted, modified as commit_modified, renamed_to}
 use Rattle.open_commits.specs.Showing.{entry_shown as commit_entry_shown}
-use Rattle.stream_state.specs.declared.branches.Tip.TheVariants.{Unborn}
-use Rattle.stream_state.specs.declared.fault.Fault.{Fault}
-use Rattle.stream_state.specs.declared.headers.CommitHeader.{CommitHeader}
-use Rattle.stream_state.specs.declared.headers.InlineFile.{InlineFile}
-use Rattle.stream_state.specs.OpenCommand.{OpenCommand, changes_in, commit_header_in, inline_in, tag_header_in}
-use Rattle.stream_state.specs.OpenCommand as open_command
-use Rattle.stream_state.specs.Branches.{branch_set, tip_commit, tip_for}
-use Rattle.stream_state.specs.Faults.{and_then, text_first}
-use Rattle.stream_state.specs.Marks.{referred_name}
-use Rattle.stream_state.specs.Printing.{shown_object}
-use Rattle.stream_state.specs.Showing.{entry_shown}
+use Rattle.stream_parts.specs.declared.branches.Tip.TheVariants.{Unborn}
+use Rattle.stream_parts.specs.declared.fault.Fault.{Fault}
+use Rattle.stream_parts.specs.declared.headers.CommitHeader.{CommitHeader}
+use Rattle.stream_parts.specs.declared.headers.InlineFile.{InlineFile}
+use Rattle.stream_parts.specs.OpenCommand.{OpenCommand, changes_in, commit_header_in, inline_in, tag_header_in}
+use Rattle.stream_parts.specs.OpenCommand as open_command
+use Rattle.stream_parts.specs.Branches.{branch_set, tip_commit, tip_for}
+use Rattle.stream_parts.specs.Faults.{and_then, text_first}
+use Rattle.stream_parts.specs.Marks.{referred_name}
+use Rattle.stream_parts.specs.Printing.{shown_object}
+use Rattle.stream_parts.specs.Showing.{entry_shown}
 use Rattle.stream_commands.specs.CommitIshes.{ref_in}
 use Rattle.stream_commands.specs.Faults.{changed_or}
 use Rattle.stream_commands.specs.Workspace.{Effect, Workspace, opened as opened_on, quiet, with_command}

@@ -36,23 +36,23 @@ use Rattle.open_commits.specs.OpenCommit.{OpenCommit, begun}
 use Rattle.open_commits.specs.Changes.{all_deleted, contents_put, copied_to, deleted, modified, renamed_to}
 use Rattle.open_commits.specs.Parents.{merged, started_from}
 use Rattle.open_commits.specs.Showing.{entry_shown as commit_entry_shown}
-use Rattle.stream_state.specs.declared.branches.Tip.{Tip}
-use Rattle.stream_state.specs.declared.branches.Tip.TheVariants.{Unborn}
-use Rattle.stream_state.specs.declared.fault.Fault.{Fault}
-use Rattle.stream_state.specs.declared.fault.Fault.TheVariants as fault
-use Rattle.stream_state.specs.declared.headers.CommitHeader.{CommitHeader}
-use Rattle.stream_state.specs.declared.headers.InlineFile.{InlineFile}
-use Rattle.stream_state.specs.declared.headers.TagHeader.{TagHeader}
-use Rattle.stream_state.specs.OpenCommand.{OpenCommand, already_said, changes_in, commit_header_in, inline_in, reset_in, tag_header_in}
-use Rattle.stream_state.specs.OpenCommand as open_command
-use Rattle.stream_state.specs.Branches.{Branches, branch_set, commit_at, has_branch_room, tip_commit, tip_for, tip_of}
-use Rattle.stream_state.specs.Checkpoints.{fit}
-use Rattle.stream_state.specs.Faults.{and_then, or_fault, resolved_or}
-use Rattle.stream_state.specs.Marks.{Marks, found_mark, has_room, marked_name, referred_name, room_for}
-use Rattle.stream_state.specs.Printing.{shown_content, shown_object}
-use Rattle.stream_state.specs.Showing.{entry_shown, tree_in}
-use Rattle.stream_state.specs.Storing.{stored_or, with_content}
-use Rattle.stream_state.specs.Tags.{room_for_tag, tag_content, tag_limit, tagged_kind}
+use Rattle.stream_parts.specs.declared.branches.Tip.{Tip}
+use Rattle.stream_parts.specs.declared.branches.Tip.TheVariants.{Unborn}
+use Rattle.stream_parts.specs.declared.fault.Fault.{Fault}
+use Rattle.stream_parts.specs.declared.fault.Fault.TheVariants as fault
+use Rattle.stream_parts.specs.declared.headers.CommitHeader.{CommitHeader}
+use Rattle.stream_parts.specs.declared.headers.InlineFile.{InlineFile}
+use Rattle.stream_parts.specs.declared.headers.TagHeader.{TagHeader}
+use Rattle.stream_parts.specs.OpenCommand.{OpenCommand, already_said, changes_in, commit_header_in, inline_in, reset_in, tag_header_in}
+use Rattle.stream_parts.specs.OpenCommand as open_command
+use Rattle.stream_parts.specs.Branches.{Branches, branch_set, commit_at, has_branch_room, tip_commit, tip_for, tip_of}
+use Rattle.stream_parts.specs.Checkpoints.{fit}
+use Rattle.stream_parts.specs.Faults.{and_then, or_fault, resolved_or}
+use Rattle.stream_parts.specs.Marks.{Marks, found_mark, has_room, marked_name, referred_name, room_for}
+use Rattle.stream_parts.specs.Printing.{shown_content, shown_object}
+use Rattle.stream_parts.specs.Showing.{entry_shown, tree_in}
+use Rattle.stream_parts.specs.Storing.{stored_or, with_content}
+use Rattle.stream_parts.specs.Tags.{room_for_tag, tag_content, tag_limit, tagged_kind}
 use Rattle.stream_commands.specs.Workspace.{Effect, Workspace, quiet, with_command}
 use Rattle.stream_commands.specs.Lines.{in_changes, in_commit_header, in_tag_header}
 use Rattle.stream_commands.specs.Faults.{changed_or}

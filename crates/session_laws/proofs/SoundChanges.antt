@@ -35,8 +35,8 @@ use Rattle.open_commits.specs.Parents.{changed_to, merged, started_from}
 use Rattle.open_commits.proofs.GoodCommits.{all_deleted_keeps, begun_is, change_keeps, contents_keep, copy_keeps, delete_keeps, longer_is, merge_keeps, rename_keeps, start_keeps}
 use Rattle.open_commits.proofs.GoodFiles.{contents_has, copied_has, deleted_has, modified_has, renamed_has, started_has}
 use Rattle.open_commits.proofs.StoredCommits.{stored_commit}
-use Rattle.stream_state.specs.OpenCommand.{OpenCommand}
-use Rattle.stream_state.specs.OpenCommand as open_command
+use Rattle.stream_parts.specs.OpenCommand.{OpenCommand}
+use Rattle.stream_parts.specs.OpenCommand as open_command
 use Rattle.stream_commands.specs.Faults.{changed_or}
 use Rattle.stream_commands.specs.Workspace.{Workspace}
 use Rattle.stream_commands.specs.CommitIshes.{commit_in, start_in}

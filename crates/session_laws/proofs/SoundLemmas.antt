@@ -39,30 +39,30 @@ use Rattle.stream_grammar.specs.Commands.{Done, done_by, end_of}
 use Rattle.stream_grammar.specs.Names.{CommitIsh}
 use Rattle.stream_grammar.specs.WellFormed.{NamesShortRef, IsTagRef, IsWellFormed, IsWellFormedChange, IsWellFormedCommit, IsWellFormedControl, IsWellFormedObject, IsWellFormedRef}
 use Rattle.stream_grammar.proofs.WellFormedActs.{well_formed}
-use Rattle.stream_state.specs.declared.branches.Tip.{Tip}
-use Rattle.stream_state.specs.declared.branches.Tip.TheVariants.{Unborn}
-use Rattle.stream_state.specs.declared.fault.Fault.{Fault}
-use Rattle.stream_state.specs.declared.headers.CommitHeader.{CommitHeader}
-use Rattle.stream_state.specs.declared.headers.TagHeader.{TagHeader}
-use Rattle.stream_state.specs.declared.headers.InlineFile.{InlineFile}
-use Rattle.stream_state.specs.Faults.{and_then, text_first}
+use Rattle.stream_parts.specs.declared.branches.Tip.{Tip}
+use Rattle.stream_parts.specs.declared.branches.Tip.TheVariants.{Unborn}
+use Rattle.stream_parts.specs.declared.fault.Fault.{Fault}
+use Rattle.stream_parts.specs.declared.headers.CommitHeader.{CommitHeader}
+use Rattle.stream_parts.specs.declared.headers.TagHeader.{TagHeader}
+use Rattle.stream_parts.specs.declared.headers.InlineFile.{InlineFile}
+use Rattle.stream_parts.specs.Faults.{and_then, text_first}
 use Rattle.stream_commands.specs.Faults.{changed_or}
-use Rattle.stream_state.specs.Branches.{Branches, branch_set, has_branch_room, head_in, ref_meant, with_branch, tip_commit, tip_for}
-use Rattle.stream_state.specs.Marks.{marked_name, referred_name, room_for}
-use Rattle.stream_state.specs.Headers.{new_commit_header, new_tag_header}
-use Rattle.stream_state.specs.OpenCommand.{OpenCommand, already_said, changes_in, commit_header_in, inline_in, reset_in, tag_header_in}
-use Rattle.stream_state.specs.OpenCommand as open_command
+use Rattle.stream_parts.specs.Branches.{Branches, branch_set, has_branch_room, head_in, ref_meant, with_branch, tip_commit, tip_for}
+use Rattle.stream_parts.specs.Marks.{marked_name, referred_name, room_for}
+use Rattle.stream_parts.specs.Headers.{new_commit_header, new_tag_header}
+use Rattle.stream_parts.specs.OpenCommand.{OpenCommand, already_said, changes_in, commit_header_in, inline_in, reset_in, tag_header_in}
+use Rattle.stream_parts.specs.OpenCommand as open_command
 use Rattle.stream_commands.specs.Workspace.{Workspace, Effect, opened, quiet, with_command}
 use Rattle.stream_commands.specs.CommitIshes.{commit_in, named_in, start_in, ref_in}
 use Rattle.stream_commands.specs.Lines.{in_changes, in_commit_header, in_tag_header}
 use Rattle.stream_commands.specs.Refs.{alias_set, branch_placed, branch_unborn, is_zeros, ref_set, tip_from}
-use Rattle.stream_state.specs.Storing.{with_content}
-use Rattle.stream_state.specs.Tags.{room_for_tag, tag_content, tagged_kind}
+use Rattle.stream_parts.specs.Storing.{with_content}
+use Rattle.stream_parts.specs.Tags.{room_for_tag, tag_content, tagged_kind}
 use Rattle.stream_commands.specs.Objects.{blob_stored, object_stored}
 use Rattle.stream_commands.specs.Tags.{tag_made, tag_stored, tagged}
-use Rattle.stream_state.specs.Checkpoints.{fit}
+use Rattle.stream_parts.specs.Checkpoints.{fit}
 use Rattle.stream_commands.specs.Checkpoints.{checkpoint, saved_refs}
-use Rattle.stream_state.specs.Printing.{shown_object}
+use Rattle.stream_parts.specs.Printing.{shown_object}
 use Rattle.stream_commands.specs.Controls.{controlled, feature_set, head_set}
 use Rattle.import_session.specs.Meaning.{after_act}
 use Rattle.git_paths.specs.Paths.{IsPath}
@@ -76,11 +76,12 @@ use Rattle.open_commits.proofs.FitCommits.{entry_fits}
 use Rattle.open_commits.proofs.GoodCommits.{entry_keeps}
 use Rattle.import_session.specs.Changes.{file_stored, files_changed}
 use Rattle.stream_commands.specs.Replies.{branch_entry_shown, entry_line, replied}
-use Rattle.import_session.specs.Commits.{begun_from, closed_where, commit_merged, commit_opened, commit_said, commit_started, header_of, header_said, opened_with}
+use Rattle.import_session.specs.Commits.{begun_from, closed_where, commit_merged, commit_opened, commit_said, commit_started, header_of, header_said}
+use Rattle.import_session.specs.Opening.{opened_with}
 use Rattle.stream_commands.specs.Printing.{prints}
 use Rattle.session_laws.proofs.SoundChanges.{IsReady, LeavesOpen, begun_open, cleared_open, commit_merged_open, commit_started_open, command_grown, contents_open, copied_open, deleted_open, modified_open, renamed_open}
 use Rattle.import_session.specs.Sound.{IsCommitHeader, IsStreamBranch, IsOpen, IsPending, IsSound, IsSoundCommand, IsSoundRepository, IsTagHeader, IsTip}
-use Rattle.stream_state.specs.Showing.{entry_shown as stored_entry_shown}
+use Rattle.stream_parts.specs.Showing.{entry_shown as stored_entry_shown}
 use Rattle.import_session.specs.Stream.{Running, Step, commands_end, last_checkpoint, session_end, step, taken, unless_done_missing}
 use Rattle.import_session.proofs.SoundCommits.{IsCommitOf, by_test, commit_good, start_good, then_any, then_good, tip_commit_is}
 use Rattle.import_session.proofs.SoundEnds.{branch_keeps, branches_longer, from_ok, grown_by, marks_longer, marks_with, refs_grown, tags_grown, where_keeps}

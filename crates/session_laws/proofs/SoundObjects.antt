@@ -10,7 +10,7 @@ use Rattle.git_names.specs.Naming.{AnswersNames}
 use Rattle.tenant_tables.specs.declared.fault.Fault.{Fault as TableFault}
 use Rattle.tenant_tables.specs.Adding.{store_fault}
 use Rattle.tenant_tables.proofs.StoredGood.{Holds, MayStore, stored_good}
-use Rattle.stream_state.specs.Storing.{stored_or, with_content}
+use Rattle.stream_parts.specs.Storing.{stored_or, with_content}
 
 -- ---- names
 

@@ -13,12 +13,12 @@ use Rattle.git_model.specs.RefStore.{RefStore, ChangesRef, listed_refs, target_o
 use Rattle.git_model.specs.Repository.{Object}
 use Rattle.git_model.proofs.GoodRefs.{refs_longer}
 use Rattle.tenant_refs.proofs.Stores.{ChangesRef-with_ref, ChangesRef-without_ref}
-use Rattle.stream_state.specs.declared.branches.Tip.{Tip}
-use Rattle.stream_state.specs.declared.branches.Tip.TheVariants.{Unborn, Deleted, At}
-use Rattle.stream_state.specs.Branches.{Branches}
-use Rattle.stream_state.specs.Tags.{PendingTags}
+use Rattle.stream_parts.specs.declared.branches.Tip.{Tip}
+use Rattle.stream_parts.specs.declared.branches.Tip.TheVariants.{Unborn, Deleted, At}
+use Rattle.stream_parts.specs.Branches.{Branches}
+use Rattle.stream_parts.specs.Tags.{PendingTags}
 use Rattle.stream_commands.specs.Workspace.{Workspace}
-use Rattle.stream_state.specs.Checkpoints.{by_head, by_tags, fit}
+use Rattle.stream_parts.specs.Checkpoints.{by_head, by_tags, fit}
 use Rattle.stream_commands.specs.Checkpoints.{by_branches, moves, saved_by, saved_refs}
 use Rattle.import_session.specs.Sound.{IsStreamBranch, IsPending, IsSound, IsTip}
 

@@ -15,7 +15,7 @@ use Rattle.open_commits.specs.Changes.{Left, contents_put}
 use Rattle.open_commits.specs.OpenCommit.{OpenCommit}
 use Rattle.open_commits.proofs.FitCommits.{contents_fit}
 use Rattle.stream_commands.specs.Faults.{changed_or}
-use Rattle.stream_state.specs.Storing.{stored_or, with_content}
+use Rattle.stream_parts.specs.Storing.{stored_or, with_content}
 
 pub both_ok : {A E : Type 0} (P Q : A → Type 0) (r : Result A E) → IfOk r P → IfOk r Q
     → IfOk r (λ value. P value × Q value)

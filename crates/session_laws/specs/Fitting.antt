@@ -18,8 +18,8 @@ use Rattle.stream_grammar.specs.Acts.{RefCommand, ResetFrom}
 use Rattle.stream_grammar.specs.Acts.{ReplyCommand, LsInCommit}
 use Rattle.stream_grammar.specs.Acts.{Act, Object, Commit, Change, Ref, Reply}
 use Rattle.open_commits.specs.OpenCommit.{OpenCommit}
-use Rattle.stream_state.specs.OpenCommand.{OpenCommand}
-use Rattle.stream_state.specs.OpenCommand as open_command
+use Rattle.stream_parts.specs.OpenCommand.{OpenCommand}
+use Rattle.stream_parts.specs.OpenCommand as open_command
 use Rattle.stream_commands.specs.Workspace.{Workspace}
 use Rattle.import_session.specs.Stream.{Running}
 

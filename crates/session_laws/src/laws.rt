@@ -9,7 +9,7 @@ ghost use Rattle.stream_lex.specs.Items as items;
 ghost use Rattle.stream_grammar.specs.declared.fault.Fault.TheVariants as text_fault;
 ghost use Rattle.stream_grammar.specs.Acts.{Act};
 ghost use Rattle.stream_grammar.specs.Commands.{Done, done_by};
-ghost use Rattle.stream_state.specs.declared.fault.Fault.TheVariants as fault;
+ghost use Rattle.stream_parts.specs.declared.fault.Fault.TheVariants as fault;
 ghost use Rattle.stream_commands.specs.Workspace.{Workspace, Effect, opened};
 ghost use Rattle.import_session.specs.Stream.{Running, Step, begun, step, session_end, last_checkpoint};
 ghost use Rattle.import_session.specs.Commits.{closed_where};

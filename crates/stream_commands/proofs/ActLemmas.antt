@@ -1,20 +1,20 @@
 -- What a refusal, one act after another, a printed line and a stored blob leave of a workspace.
 use Rattle.std.proofs.Common.{◌≡◌, ◌≢◌, ◌⊎◌, inl, inr, ℕ, List, Result, Ok, Err, refl, ◌∙◌, append_assoc, codes, Option, rules}
-use Rattle.stream_state.specs.declared.fault.Fault.{Fault}
-use Rattle.stream_state.specs.declared.fault.Fault.TheVariants as fault
+use Rattle.stream_parts.specs.declared.fault.Fault.{Fault}
+use Rattle.stream_parts.specs.declared.fault.Fault.TheVariants as fault
 use Rattle.git_model.specs.declared.kind.Kind.TheVariants as kind
 use Rattle.git_model.specs.Content.{Content}
 use Rattle.git_model.specs.RefStore.{RefStore}
 use Rattle.content_pool.specs.Pool.{Cells}
 use Rattle.tenant_tables.specs.Objects.{objects}
 use Rattle.tenant_tables.specs.View.{View}
-use Rattle.stream_state.specs.Faults.{and_then}
-use Rattle.stream_state.specs.Marks.{Marks, room_for, with_mark}
+use Rattle.stream_parts.specs.Faults.{and_then}
+use Rattle.stream_parts.specs.Marks.{Marks, room_for, with_mark}
 use Rattle.stream_commands.specs.Workspace.{Workspace, Effect}
-use Rattle.stream_state.specs.Stored.{IsStored}
+use Rattle.stream_parts.specs.Stored.{IsStored}
 use Rattle.stream_commands.specs.Held.{FilesStand}
 use Rattle.stream_commands.specs.Objects.{blob_stored}
-use Rattle.stream_state.specs.Printing.{Shows}
+use Rattle.stream_parts.specs.Printing.{Shows}
 use Rattle.stream_commands.specs.Printing.{prints}
 use Rattle.stream_commands.specs.State.{StreamState, marked, workspace_in, CarriesOut}
 use Rattle.stream_commands.proofs.HeldLemmas.{command_same}

@@ -10,12 +10,12 @@ use Rattle.git_model.specs.GoodRepository.{refs_limit}
 use Rattle.content_pool.specs.Pool.{Cells}
 use Rattle.tenant_tables.specs.View.{View}
 use Rattle.tenant_tables.proofs.TableLemmas.{length-objects}
-use Rattle.stream_state.specs.declared.fault.Fault.TheVariants as fault
-use Rattle.stream_state.specs.declared.branches.Tip.{Tip}
-use Rattle.stream_state.specs.Branches.{Branches}
-use Rattle.stream_state.specs.Tags.{PendingTags}
+use Rattle.stream_parts.specs.declared.fault.Fault.TheVariants as fault
+use Rattle.stream_parts.specs.declared.branches.Tip.{Tip}
+use Rattle.stream_parts.specs.Branches.{Branches}
+use Rattle.stream_parts.specs.Tags.{PendingTags}
 use Rattle.stream_commands.specs.Workspace.{Workspace}
-use Rattle.stream_state.specs.Checkpoints.{by_head, by_tags}
+use Rattle.stream_parts.specs.Checkpoints.{by_head, by_tags}
 use Rattle.stream_commands.specs.Checkpoints.{saved_by, by_branches, kept_by, kept_lines, saved_refs, checkpointed, checkpoint}
 use Rattle.stream_commands.specs.State.{StreamState, workspace_in, CarriesOut}
 

@@ -17,9 +17,9 @@ use Rattle.kept_files.specs.KeptCommits.{AreBranches}
 use Rattle.open_commits.specs.declared.fault.Fault.{Fault as CommitFault}
 use Rattle.open_commits.specs.Calls.{AddsOnly}
 use Rattle.open_commits.specs.OpenCommit.{HeldCommit, OpenCommit, Stands, commit_in}
-use Rattle.stream_state.specs.declared.fault.Fault.{Fault}
-use Rattle.stream_state.specs.OpenCommand.{OpenCommand, Changes, Inline, command_with}
-use Rattle.stream_state.specs.Storing.{stored_or, with_content}
+use Rattle.stream_parts.specs.declared.fault.Fault.{Fault}
+use Rattle.stream_parts.specs.OpenCommand.{OpenCommand, Changes, Inline, command_with}
+use Rattle.stream_parts.specs.Storing.{stored_or, with_content}
 use Rattle.stream_commands.specs.Faults.{changed_or}
 use Rattle.stream_commands.specs.State.{StreamState, state_with}
 use Rattle.stream_commands.specs.Held.{HoldsFiles, HoldsOpen, KeepsBranchFiles}

@@ -8,14 +8,14 @@ use Rattle.git_model.specs.Repository.{Object}
 use Rattle.content_pool.specs.Pool.{Cells}
 use Rattle.tenant_tables.specs.Objects.{objects}
 use Rattle.tenant_tables.specs.View.{View}
-use Rattle.stream_state.specs.declared.fault.Fault.{Fault}
-use Rattle.stream_state.specs.declared.fault.Fault.TheVariants as fault
-use Rattle.stream_state.specs.declared.headers.TagHeader.{TagHeader}
-use Rattle.stream_state.specs.Marks.{Marks, with_mark}
-use Rattle.stream_state.specs.OpenCommand.{Nothing}
-use Rattle.stream_state.specs.Tags.{PendingTags, tag_content}
+use Rattle.stream_parts.specs.declared.fault.Fault.{Fault}
+use Rattle.stream_parts.specs.declared.fault.Fault.TheVariants as fault
+use Rattle.stream_parts.specs.declared.headers.TagHeader.{TagHeader}
+use Rattle.stream_parts.specs.Marks.{Marks, with_mark}
+use Rattle.stream_parts.specs.OpenCommand.{Nothing}
+use Rattle.stream_parts.specs.Tags.{PendingTags, tag_content}
 use Rattle.stream_commands.specs.Workspace.{Workspace, quiet}
-use Rattle.stream_state.specs.Storing.{with_content}
+use Rattle.stream_parts.specs.Storing.{with_content}
 use Rattle.stream_commands.specs.Tags.{tag_made, tag_stored, tagged}
 use Rattle.stream_commands.specs.State.{CarriesOut, StreamState, state_with, workspace_in}
 use Rattle.stream_commands.proofs.ActLemmas.{first_refused, first_then}

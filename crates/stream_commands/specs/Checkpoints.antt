@@ -1,13 +1,13 @@
 -- Checkpoints: git-fast-import(1), "checkpoint"; and "fast-forward" of gitglossary(7).
 use Rattle.std.specs.Prelude.{ℕ, ◌||◌, Bool, true, if◌then◌else◌, List, [], ◌++◌, length, fold, flat_map, Option, None, Some, Result, Ok, Err, codes}
 use Rattle.git_model.specs.RefStore.{RefStore, target_of, with_ref, without_ref}
-use Rattle.stream_state.specs.declared.branches.Tip.{Tip}
-use Rattle.stream_state.specs.declared.branches.Tip.TheVariants.{Unborn, Deleted, At}
-use Rattle.stream_state.specs.declared.fault.Fault.{Fault}
-use Rattle.stream_state.specs.declared.fault.Fault.TheVariants as fault
-use Rattle.stream_state.specs.Branches.{Branches}
+use Rattle.stream_parts.specs.declared.branches.Tip.{Tip}
+use Rattle.stream_parts.specs.declared.branches.Tip.TheVariants.{Unborn, Deleted, At}
+use Rattle.stream_parts.specs.declared.fault.Fault.{Fault}
+use Rattle.stream_parts.specs.declared.fault.Fault.TheVariants as fault
+use Rattle.stream_parts.specs.Branches.{Branches}
 use Rattle.stream_commands.specs.Workspace.{Workspace, Effect}
-use Rattle.stream_state.specs.Checkpoints.{is_fast_forward, by_tags, by_head, fit}
+use Rattle.stream_parts.specs.Checkpoints.{is_fast_forward, by_tags, by_head, fit}
 
 -- A ref may be set to a tip if there is no ref yet, or by a fast-forward, or by force. It is
 -- compared with the refs as last saved.

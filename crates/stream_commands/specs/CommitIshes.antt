@@ -4,13 +4,13 @@ use Rattle.std.specs.Str.{bytes_eq}
 use Rattle.git_model.specs.declared.kind.Kind.TheVariants as kind
 use Rattle.revisions.specs.Resolution.{resolved, peeled}
 use Rattle.stream_grammar.specs.Names.{CommitIsh, Marked, Expression}
-use Rattle.stream_state.specs.declared.branches.Tip.{Tip}
-use Rattle.stream_state.specs.declared.fault.Fault.{Fault}
-use Rattle.stream_state.specs.declared.fault.Fault.TheVariants as fault
-use Rattle.stream_state.specs.Faults.{and_then, or_fault, resolved_or}
+use Rattle.stream_parts.specs.declared.branches.Tip.{Tip}
+use Rattle.stream_parts.specs.declared.fault.Fault.{Fault}
+use Rattle.stream_parts.specs.declared.fault.Fault.TheVariants as fault
+use Rattle.stream_parts.specs.Faults.{and_then, or_fault, resolved_or}
 use Rattle.stream_commands.specs.Workspace.{Workspace}
-use Rattle.stream_state.specs.Marks.{marked_name}
-use Rattle.stream_state.specs.Branches.{ref_meant, tip_of, commit_at}
+use Rattle.stream_parts.specs.Marks.{marked_name}
+use Rattle.stream_parts.specs.Branches.{ref_meant, tip_of, commit_at}
 
 -- The ref that words name, if they are a ref name.
 abbrev pub ref_in : Workspace → List ℕ → List ℕ

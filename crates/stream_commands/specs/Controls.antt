@@ -6,8 +6,8 @@ use Rattle.stream_grammar.specs.declared.feature.Feature.{Feature}
 use Rattle.stream_grammar.specs.declared.feature.Feature.TheVariants as feature
 use Rattle.stream_grammar.specs.declared.act.ControlCommand.{ControlCommand}
 use Rattle.stream_grammar.specs.declared.act.ControlCommand.TheVariants as control
-use Rattle.stream_state.specs.declared.fault.Fault.{Fault}
-use Rattle.stream_state.specs.declared.fault.Fault.TheVariants as fault
+use Rattle.stream_parts.specs.declared.fault.Fault.{Fault}
+use Rattle.stream_parts.specs.declared.fault.Fault.TheVariants as fault
 use Rattle.stream_commands.specs.Workspace.{Workspace, Effect, quiet}
 use Rattle.stream_commands.specs.Checkpoints.{checkpoint}
 

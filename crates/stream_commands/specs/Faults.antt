@@ -2,8 +2,8 @@
 use Rattle.std.specs.Prelude.{Result, Ok, Err}
 use Rattle.open_commits.specs.declared.fault.Fault.{Fault as CommitFault}
 use Rattle.open_commits.specs.declared.fault.Fault.TheVariants as commit_fault
-use Rattle.stream_state.specs.declared.fault.Fault.{Fault}
-use Rattle.stream_state.specs.declared.fault.Fault.TheVariants as fault
+use Rattle.stream_parts.specs.declared.fault.Fault.{Fault}
+use Rattle.stream_parts.specs.declared.fault.Fault.TheVariants as fault
 
 -- The fault of a change of the open commit, or of its end, as one of the stream.
 abbrev pub changing_fault : CommitFault → Fault

@@ -6,7 +6,7 @@ use Rattle.tenant_tables.specs.Objects.{objects}
 use Rattle.tenant_tables.specs.View.{View}
 use Rattle.kept_files.specs.KeptCommits.{AreBranches}
 use Rattle.open_commits.specs.OpenCommit.{HeldCommit, Stands}
-use Rattle.stream_state.specs.OpenCommand.{OpenCommand, Changes, Inline}
+use Rattle.stream_parts.specs.OpenCommand.{OpenCommand, Changes, Inline}
 use Rattle.stream_commands.specs.State.{StreamState}
 
 -- The files of the open commit are a branch among the objects, if there is one.

@@ -1,11 +1,11 @@
 -- What a line of a command needs: the command that it belongs to is open.
 use Rattle.std.specs.Prelude.{Result}
 use Rattle.open_commits.specs.OpenCommit.{OpenCommit}
-use Rattle.stream_state.specs.declared.fault.Fault.{Fault}
-use Rattle.stream_state.specs.declared.headers.CommitHeader.{CommitHeader}
-use Rattle.stream_state.specs.declared.headers.TagHeader.{TagHeader}
-use Rattle.stream_state.specs.Faults.{and_then}
-use Rattle.stream_state.specs.OpenCommand.{Commit, Tag, Changes, changes_in, commit_header_in, tag_header_in}
+use Rattle.stream_parts.specs.declared.fault.Fault.{Fault}
+use Rattle.stream_parts.specs.declared.headers.CommitHeader.{CommitHeader}
+use Rattle.stream_parts.specs.declared.headers.TagHeader.{TagHeader}
+use Rattle.stream_parts.specs.Faults.{and_then}
+use Rattle.stream_parts.specs.OpenCommand.{Commit, Tag, Changes, changes_in, commit_header_in, tag_header_in}
 use Rattle.stream_commands.specs.Workspace.{Workspace, Effect, quiet, with_command}
 
 -- A line of a commit, before its message, adds to its header.

@@ -3,13 +3,13 @@ use Rattle.std.specs.Prelude.{ℕ, List, Option, Some, Result}
 use Rattle.git_model.specs.declared.kind.Kind.TheVariants as kind
 use Rattle.git_model.specs.Content.{Content, content_from, name_by}
 use Rattle.stream_grammar.specs.Acts.{ObjectCommand, Blob, BeginTag, TagTarget, Tagger, Tag}
-use Rattle.stream_state.specs.declared.fault.Fault.{Fault}
-use Rattle.stream_state.specs.Faults.{and_then}
-use Rattle.stream_state.specs.Headers.{new_tag_header}
-use Rattle.stream_state.specs.Marks.{room_for, with_mark}
-use Rattle.stream_state.specs.OpenCommand as open_command
-use Rattle.stream_state.specs.OpenCommand.{tag_header_in}
-use Rattle.stream_state.specs.Storing.{with_content}
+use Rattle.stream_parts.specs.declared.fault.Fault.{Fault}
+use Rattle.stream_parts.specs.Faults.{and_then}
+use Rattle.stream_parts.specs.Headers.{new_tag_header}
+use Rattle.stream_parts.specs.Marks.{room_for, with_mark}
+use Rattle.stream_parts.specs.OpenCommand as open_command
+use Rattle.stream_parts.specs.OpenCommand.{tag_header_in}
+use Rattle.stream_parts.specs.Storing.{with_content}
 use Rattle.stream_commands.specs.Workspace.{Workspace, Effect, quiet, with_command}
 use Rattle.stream_commands.specs.Lines.{in_tag_header}
 use Rattle.stream_commands.specs.Tags.{tag_stored}

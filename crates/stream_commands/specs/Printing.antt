@@ -1,6 +1,6 @@
 -- Printing a line: what it does, and what a call that prints one answers and leaves.
 use Rattle.std.specs.Prelude.{ℕ, List, ◌++◌, Result, Ok, codes}
-use Rattle.stream_state.specs.declared.fault.Fault.{Fault}
+use Rattle.stream_parts.specs.declared.fault.Fault.{Fault}
 use Rattle.stream_commands.specs.Workspace.{Workspace, Effect}
 
 -- A line is printed, with its line end.

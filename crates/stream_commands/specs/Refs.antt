@@ -4,15 +4,15 @@ use Rattle.std.specs.Str.{bytes_eq}
 use Rattle.git_model.specs.declared.kind.Kind.TheVariants as kind
 use Rattle.stream_grammar.specs.Acts.{RefCommand, Reset, ResetFrom, Alias}
 use Rattle.stream_grammar.specs.Names.{CommitIsh, Marked, Expression}
-use Rattle.stream_state.specs.declared.branches.Tip.{Tip}
-use Rattle.stream_state.specs.declared.branches.Tip.TheVariants.{Unborn, Deleted, At}
-use Rattle.stream_state.specs.declared.fault.Fault.{Fault}
-use Rattle.stream_state.specs.Faults.{and_then}
-use Rattle.stream_state.specs.OpenCommand as open_command
-use Rattle.stream_state.specs.OpenCommand.{reset_in}
+use Rattle.stream_parts.specs.declared.branches.Tip.{Tip}
+use Rattle.stream_parts.specs.declared.branches.Tip.TheVariants.{Unborn, Deleted, At}
+use Rattle.stream_parts.specs.declared.fault.Fault.{Fault}
+use Rattle.stream_parts.specs.Faults.{and_then}
+use Rattle.stream_parts.specs.OpenCommand as open_command
+use Rattle.stream_parts.specs.OpenCommand.{reset_in}
 use Rattle.stream_commands.specs.Workspace.{Workspace, Effect, quiet}
-use Rattle.stream_state.specs.Marks.{room_for, with_mark}
-use Rattle.stream_state.specs.Branches.{branch_set, with_branch}
+use Rattle.stream_parts.specs.Marks.{room_for, with_mark}
+use Rattle.stream_parts.specs.Branches.{branch_set, with_branch}
 use Rattle.stream_commands.specs.CommitIshes.{ref_in, commit_in, start_in}
 
 -- A branch becomes unborn, whatever it was.

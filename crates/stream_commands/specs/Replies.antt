@@ -10,12 +10,12 @@ use Rattle.file_maps.specs.FileMap.{Path}
 use Rattle.stream_grammar.specs.Acts.{ReplyCommand, GetMark, CatBlob, Ls, LsInCommit, Progress}
 use Rattle.open_commits.specs.OpenCommit.{OpenCommit}
 use Rattle.open_commits.specs.Showing.{entry_shown as commit_entry_shown}
-use Rattle.stream_state.specs.declared.fault.Fault.{Fault}
-use Rattle.stream_state.specs.Faults.{and_then}
-use Rattle.stream_state.specs.Marks.{marked_name, referred_name}
-use Rattle.stream_state.specs.OpenCommand.{changes_in}
-use Rattle.stream_state.specs.Printing.{shown_object}
-use Rattle.stream_state.specs.Showing.{entry_shown}
+use Rattle.stream_parts.specs.declared.fault.Fault.{Fault}
+use Rattle.stream_parts.specs.Faults.{and_then}
+use Rattle.stream_parts.specs.Marks.{marked_name, referred_name}
+use Rattle.stream_parts.specs.OpenCommand.{changes_in}
+use Rattle.stream_parts.specs.Printing.{shown_object}
+use Rattle.stream_parts.specs.Showing.{entry_shown}
 use Rattle.stream_commands.specs.Faults.{changed_or}
 use Rattle.stream_commands.specs.Workspace.{Workspace, Effect}
 use Rattle.stream_commands.specs.Printing.{prints}

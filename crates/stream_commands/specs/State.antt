@@ -5,17 +5,17 @@ use Rattle.git_model.specs.RefStore.{RefStore}
 use Rattle.content_pool.specs.Pool.{Cells}
 use Rattle.tenant_tables.specs.Objects.{objects}
 use Rattle.tenant_tables.specs.View.{View}
-use Rattle.stream_state.specs.declared.fault.Fault.{Fault}
-use Rattle.stream_state.specs.declared.fault.Fault.TheVariants as fault
+use Rattle.stream_parts.specs.declared.fault.Fault.{Fault}
+use Rattle.stream_parts.specs.declared.fault.Fault.TheVariants as fault
 use Rattle.stream_commands.specs.declared.open_command.OpenCommand.{OpenCommand as LentCommand}
 use Rattle.stream_commands.specs.declared.open_command.OpenCommand.TheVariants as lent
 use Rattle.stream_commands.specs.declared.state.StreamState.{StreamState as LentStreamState}
 use Rattle.kept_files.specs.declared.kept_files.KeptCommit.{KeptCommit}
 use Rattle.open_commits.specs.OpenCommit.{HeldCommit, commit_held, commit_in}
-use Rattle.stream_state.specs.Marks.{Marks}
-use Rattle.stream_state.specs.Branches.{Branches}
-use Rattle.stream_state.specs.OpenCommand.{OpenCommand, Nothing, Commit, Tag, Reset, Changes, Inline}
-use Rattle.stream_state.specs.StreamOf.{StreamOf, new_stream, stream_with}
+use Rattle.stream_parts.specs.Marks.{Marks}
+use Rattle.stream_parts.specs.Branches.{Branches}
+use Rattle.stream_parts.specs.OpenCommand.{OpenCommand, Nothing, Commit, Tag, Reset, Changes, Inline}
+use Rattle.stream_parts.specs.StreamOf.{StreamOf, new_stream, stream_with}
 use Rattle.stream_commands.specs.Workspace.{Workspace, Effect}
 
 -- What a stream has of its own apart from its objects. The files of the open commit are held as a

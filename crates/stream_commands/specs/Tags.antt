@@ -4,15 +4,15 @@ use Rattle.git_model.specs.declared.kind.Kind.{Kind}
 use Rattle.git_model.specs.declared.kind.Kind.TheVariants as kind
 use Rattle.git_model.specs.Content.{Content, name_by}
 use Rattle.git_model.specs.References.{kind_named}
-use Rattle.stream_state.specs.declared.fault.Fault.{Fault}
-use Rattle.stream_state.specs.declared.headers.TagHeader.{TagHeader}
-use Rattle.stream_state.specs.Faults.{and_then}
+use Rattle.stream_parts.specs.declared.fault.Fault.{Fault}
+use Rattle.stream_parts.specs.declared.headers.TagHeader.{TagHeader}
+use Rattle.stream_parts.specs.Faults.{and_then}
 use Rattle.stream_commands.specs.Workspace.{Workspace, Effect, quiet}
-use Rattle.stream_state.specs.Marks.{room_for, with_mark}
+use Rattle.stream_parts.specs.Marks.{room_for, with_mark}
 use Rattle.stream_commands.specs.CommitIshes.{named_in}
-use Rattle.stream_state.specs.OpenCommand.{Nothing, already_said}
-use Rattle.stream_state.specs.Storing.{with_content}
-use Rattle.stream_state.specs.Tags.{room_for_tag, tagged_kind, tag_content}
+use Rattle.stream_parts.specs.OpenCommand.{Nothing, already_said}
+use Rattle.stream_parts.specs.Storing.{with_content}
+use Rattle.stream_parts.specs.Tags.{room_for_tag, tagged_kind, tag_content}
 
 -- The tag's object is stored, its mark is set to it, and it waits for the next checkpoint.
 abbrev pub tag_made : (List ℕ → List ℕ) → Option ℕ → List ℕ → Content → Workspace

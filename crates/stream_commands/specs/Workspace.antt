@@ -2,10 +2,10 @@
 use Rattle.std.specs.Prelude.{ℕ, List, [], length, Result, Ok}
 use Rattle.git_model.specs.RefStore.{RefStore}
 use Rattle.git_model.specs.Repository.{Object, Repository}
-use Rattle.stream_state.specs.declared.fault.Fault.{Fault}
+use Rattle.stream_parts.specs.declared.fault.Fault.{Fault}
 use Rattle.open_commits.specs.OpenCommit.{OpenCommit}
-use Rattle.stream_state.specs.OpenCommand.{OpenCommand}
-use Rattle.stream_state.specs.StreamOf.{StreamOf, new_stream}
+use Rattle.stream_parts.specs.OpenCommand.{OpenCommand}
+use Rattle.stream_parts.specs.StreamOf.{StreamOf, new_stream}
 
 -- A workspace: the objects of the repository, oldest first and those of this stream last, and how
 -- many of them were there at the last checkpoint; the refs and HEAD as last saved; and what the

@@ -5,7 +5,7 @@ ghost use Rattle.git_model.specs.GoodRepository.{AreObjects};
 ghost use Rattle.tenant_refs.specs.Changes.{with_changes};
 ghost use Rattle.tenant_tables.specs.Objects.{objects};
 ghost use Rattle.tenant_tables.specs.IsBackedBy.{IsBackedBy};
-ghost use Rattle.stream_state.specs.Checkpoints.{by_tags};
+ghost use Rattle.stream_parts.specs.Checkpoints.{by_tags};
 ghost use Rattle.stream_commands.specs.Checkpoints.{by_branches, checkpoint, kept_by, kept_lines, moves, saved_by};
 ghost use Rattle.stream_commands.specs.Held.{KeepsBranchFiles};
 ghost use Rattle.stream_commands.specs.State.{state_shown, workspace_in, CarriesOut};
@@ -13,12 +13,12 @@ ghost use Rattle.stream_commands.specs.State.{state_shown, workspace_in, Carries
 use crate::state::StreamState;
 use content_pool::Pool;
 use git_objects::{Name, Naming};
-use stream_state::branches::Tip;
-use stream_state::checkpoint::{
+use stream_parts::branches::Tip;
+use stream_parts::checkpoint::{
     Saving, add_change, add_tags, carry_out, is_fast_forward, save_head,
 };
-use stream_state::fault::Fault;
-use stream_state::print::print_kept;
+use stream_parts::fault::Fault;
+use stream_parts::print::print_kept;
 use tenant_refs::{RefName, Refs};
 use tenant_tables::Table;
 

@@ -11,7 +11,7 @@ ghost use Rattle.content_pool.specs.Pool.{Cells};
 ghost use Rattle.tenant_tables.specs.View.{View};
 ghost use Rattle.stream_grammar.specs.Names.{Expression};
 ghost use Rattle.stream_grammar.specs.Shown.{commit_shown};
-ghost use Rattle.stream_state.specs.Faults.{Gives};
+ghost use Rattle.stream_parts.specs.Faults.{Gives};
 ghost use Rattle.stream_commands.specs.CommitIshes.{commit_in, is_branch, named_in, start_in};
 ghost use Rattle.stream_commands.specs.State.{state_shown, workspace_in};
 
@@ -19,10 +19,10 @@ use crate::state::StreamState;
 use content_pool::Pool;
 use git_objects::{Kind, Name, Naming};
 use stream_grammar::CommitIsh;
-use stream_state::branches::meant;
-use stream_state::commit_ishes::{commit_at, peel_to, resolve_words};
-use stream_state::fault::Fault;
-use stream_state::marks;
+use stream_parts::branches::meant;
+use stream_parts::commit_ishes::{commit_at, peel_to, resolve_words};
+use stream_parts::fault::Fault;
+use stream_parts::marks;
 use tenant_refs::{RefName, Refs};
 use tenant_tables::Table;
 

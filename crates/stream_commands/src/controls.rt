@@ -15,8 +15,8 @@ use crate::state::StreamState;
 use content_pool::Pool;
 use git_objects::Naming;
 use stream_grammar::{ControlCommand, Feature};
-use stream_state::fault::Fault;
-use stream_state::head::Head;
+use stream_parts::fault::Fault;
+use stream_parts::head::Head;
 use tenant_refs::{RefName, Refs};
 use tenant_tables::Table;
 

@@ -3,7 +3,7 @@
 ghost use Rattle.std.specs.Prelude.{◌≡◌};
 ghost use Rattle.stream_commands.specs.Faults.{changed_or, changing_fault};
 
-use stream_state::fault::Fault;
+use stream_parts::fault::Fault;
 
 /// The refusal of the open commit, as one of the stream.
 pub fn fault_of(refusal: open_commits::Fault) -> Fault

@@ -21,10 +21,10 @@ use content_pool::Pool;
 use git_objects::{Kind, Naming};
 use stream_grammar::{CommitIsh, Ident, Mark, ObjectCommand};
 use stream_marks::Marks;
-use stream_state::fault::Fault;
-use stream_state::headers::{TagHeader, set_ident, set_target};
-use stream_state::marks;
-use stream_state::objects::store;
+use stream_parts::fault::Fault;
+use stream_parts::headers::{TagHeader, set_ident, set_target};
+use stream_parts::marks;
+use stream_parts::objects::store;
 use tenant_refs::{RefName, Refs};
 use tenant_tables::Table;
 

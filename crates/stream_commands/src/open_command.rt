@@ -2,13 +2,13 @@
 
 ghost use Rattle.std.specs.Prelude.{◌≡◌, Err, MatchResult};
 ghost use Rattle.stream_grammar.specs.declared.fault.Fault.TheVariants as text_fault;
-ghost use Rattle.stream_state.specs.OpenCommand.{changes_in};
+ghost use Rattle.stream_parts.specs.OpenCommand.{changes_in};
 ghost use Rattle.stream_commands.specs.State.{command_shown};
 
 use open_commits::OpenCommit;
 use std::mem;
-use stream_state::fault::Fault;
-use stream_state::headers::{CommitHeader, InlineFile, TagHeader};
+use stream_parts::fault::Fault;
+use stream_parts::headers::{CommitHeader, InlineFile, TagHeader};
 use tenant_refs::RefName;
 
 /// The command that is open.

@@ -21,10 +21,10 @@ use content_pool::Pool;
 use git_objects::Naming;
 use git_paths::Path;
 use stream_grammar::ReplyCommand;
-use stream_state::entries::print_stored;
-use stream_state::fault::Fault;
-use stream_state::objects::{print_marked, print_referred};
-use stream_state::print::print_line;
+use stream_parts::entries::print_stored;
+use stream_parts::fault::Fault;
+use stream_parts::objects::{print_marked, print_referred};
+use stream_parts::print::print_line;
 use tenant_tables::Table;
 
 // 'ls' with a path alone: prints what is at the path in the open commit.

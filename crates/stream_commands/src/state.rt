@@ -3,7 +3,7 @@
 
 ghost use Rattle.std.specs.Prelude.{◌≡◌};
 ghost use Rattle.open_commits.specs.OpenCommit.{commit_held};
-ghost use Rattle.stream_state.specs.OpenCommand.{Changes};
+ghost use Rattle.stream_parts.specs.OpenCommand.{Changes};
 ghost use Rattle.stream_commands.specs.State.{empty_state, state_shown, state_with};
 
 use crate::open_command::OpenCommand;
@@ -12,8 +12,8 @@ use kept_files::KeptFiles;
 use open_commits::OpenCommit;
 use std::alloc::Global;
 use stream_marks::Marks;
-use stream_state::branches::Branches;
-use stream_state::head::Head;
+use stream_parts::branches::Branches;
+use stream_parts::head::Head;
 use tenant_refs::RefName;
 
 /// What a stream has of its own apart from its objects.

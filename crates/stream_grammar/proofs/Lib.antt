@@ -1,6 +1,8 @@
+pub mod Answered
 pub mod Brought
 pub mod Filled
 pub mod InTurn
+pub mod Meanings
 pub mod Placed
 pub mod Printed
 pub mod Refs

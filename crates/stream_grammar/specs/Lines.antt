@@ -159,3 +159,14 @@ abbrev pub first_act : Bool → Part → Item → Result Act Fault
 first_act late part (Line text) = first_line_act late part text
 first_act late part (Data contents) = Ok Wait
 first_act late part Blank = Ok Wait
+
+-- The parts that may ask for nothing: the first lines of a blob and of an alias, 'mark',
+-- 'original-oid', 'option' and a blank line. Every other part that the parser accepts gives an act.
+abbrev pub may_wait : Part → Bool
+may_wait (part.Opening opening.Blob) = true
+may_wait (part.Opening opening.Alias) = true
+may_wait (part.Header header.Mark) = true
+may_wait (part.Header header.OriginalOid) = true
+may_wait (part.Control control.OptionCommand) = true
+may_wait part.Blank = true
+may_wait _ = false

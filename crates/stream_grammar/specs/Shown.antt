@@ -1,6 +1,6 @@
 -- What contracts see of the values of the parser: acts without where their bytes lie, and the open
 -- command as terms.
-use Rattle.std.specs.Prelude.{◌≡◌, ◌≢◌, ℕ, Option, Some, None, Result, Ok, Err}
+use Rattle.std.specs.Prelude.{◌≡◌, ◌≢◌, ℕ, true, List, [], ◌∷◌, Option, Some, None, Result, Ok, Err}
 use Rattle.stream_grammar.specs.declared.fault.Fault.{Fault}
 use Rattle.stream_grammar.specs.declared.fault.Fault.TheVariants as fault
 use Rattle.stream_grammar.specs.declared.commit_ish.CommitIsh.{CommitIsh as LentCommitIsh}
@@ -29,6 +29,8 @@ use Rattle.stream_grammar.specs.Acts.{RefCommand, Reset, ResetFrom, Alias}
 use Rattle.stream_grammar.specs.Acts.{ReplyCommand, GetMark, CatBlob, Ls, LsInCommit, Progress}
 use Rattle.stream_grammar.specs.Acts.{Act, Wait, Object, Commit, Change, Ref, Reply, Control, Effect}
 use Rattle.stream_grammar.specs.Commands.{Done, Open, Parsing, Step}
+use Rattle.stream_grammar.specs.declared.part.Part.{Part}
+use Rattle.stream_grammar.specs.Lines.{may_wait}
 use Rattle.stream_grammar.specs.Stages.{terms_of, opened_of}
 
 -- A commit-ish without where its bytes lie.
@@ -116,3 +118,13 @@ Steps (Err e) new step = e ≢ fault.Memory → step ≡ Err e
 abbrev pub Answers : Result LentDone Fault → Result Done Fault → Type 0
 Answers (Ok done) given = given ≡ Ok (done_shown done)
 Answers (Err e) given = e ≢ fault.Memory → given ≡ Err e
+
+-- What a call's answer adds to the acts that were given: one act, or nothing after a fault.
+abbrev pub given_shown : Result LentDone Fault → List Done
+given_shown (Ok done) = done_shown done ∷ []
+given_shown (Err e) = []
+
+-- An item that asks for nothing has a part that may do so.
+abbrev pub AsksBy : Part → Result LentDone Fault → Type 0
+AsksBy part (Ok done) = act_shown done.act ≡ Wait → may_wait part ≡ true
+AsksBy part (Err e) = Unit {0}

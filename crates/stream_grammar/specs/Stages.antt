@@ -1,9 +1,11 @@
 -- The stages of the parser: each stands for the terms that are left of a production.
-use Rattle.std.specs.Prelude.{◌≡◌, ℕ, List, [], ◌++◌, drop}
+use Rattle.std.specs.Prelude.{◌≡◌, ℕ, Bool, true, false, List, [], ◌++◌, drop, Option, is_some}
 use Rattle.stream_grammar.specs.declared.part.Part.{Part}
 use Rattle.stream_grammar.specs.declared.part.Part.TheVariants as part
 use Rattle.stream_grammar.specs.declared.part.OpeningLine.{OpeningLine}
 use Rattle.stream_grammar.specs.declared.part.OpeningLine.TheVariants as opening
+use Rattle.stream_grammar.specs.declared.part.HeaderLine.TheVariants as header
+use Rattle.stream_grammar.specs.declared.part.CommitIshLine.TheVariants as commit_ish
 use Rattle.stream_grammar.specs.declared.part.ChangeLine.TheVariants as change_line
 use Rattle.stream_grammar.specs.declared.stage.BlobNext.{BlobNext}
 use Rattle.stream_grammar.specs.declared.stage.BlobNext.TheVariants as blob
@@ -96,3 +98,49 @@ abbrev pub KeepsOpened : Opened → Part → StageFit → Type 0
 KeepsOpened now part (found.Stands stage) = opened_of stage ≡ opened_after part now
 KeepsOpened now part found.Ends = Unit {0}
 KeepsOpened now part found.Misses = Unit {0}
+
+-- Whether a `from`, data and a `to` mean something at a stage.
+abbrev pub takes_from : Opened → Bool
+takes_from opened.Changes = true
+takes_from opened.Tag = true
+takes_from opened.Reset = true
+takes_from _ = false
+
+abbrev pub takes_data : Opened → Bool
+takes_data opened.Blob = true
+takes_data opened.Commit = true
+takes_data opened.Inline = true
+takes_data opened.Tag = true
+takes_data _ = false
+
+abbrev pub takes_to : Stage → Bool
+takes_to (stage.Alias alias.To) = true
+takes_to _ = false
+
+-- Whether the definitions of Lines mean something by a part at a stage.
+abbrev pub has_meaning : Stage → Part → Bool
+has_meaning now (part.CommitIsh commit_ish.From) = takes_from (opened_of now)
+has_meaning now (part.CommitIsh commit_ish.To) = takes_to now
+has_meaning now (part.CommitIsh commit_ish.Merge) = true
+has_meaning now part.Data = takes_data (opened_of now)
+has_meaning now (part.Header line) = true
+has_meaning now (part.Change line) = true
+has_meaning now (part.Reply line) = true
+has_meaning now part.Blank = true
+has_meaning now _ = false
+
+-- Where the `to` of an alias comes next, its mark has come.
+abbrev pub HasMark : Stage → Option ℕ → Type 0
+HasMark (stage.Alias alias.To) mark = is_some mark ≡ true
+HasMark _ mark = Unit {0}
+
+-- The part before the `to` of an alias is its mark.
+abbrev pub FollowsMark : Part → Stage → Type 0
+FollowsMark taken (stage.Alias alias.To) = taken ≡ part.Header header.Mark
+FollowsMark taken _ = Unit {0}
+
+-- A part that fits at a stage means something there.
+abbrev pub Means : Stage → Part → StageFit → Type 0
+Means now taken (found.Stands next) = (has_meaning now taken ≡ true) × FollowsMark taken next
+Means now taken found.Ends = Unit {0}
+Means now taken found.Misses = Unit {0}

@@ -4,7 +4,9 @@ ghost use Rattle.std.specs.Prelude.{◌≡◌, OnErr};
 ghost use Rattle.stream_lex.specs.Looking.{item_of};
 ghost use Rattle.stream_grammar.specs.Commands.{step};
 ghost use Rattle.stream_grammar.specs.Commands as commands;
-ghost use Rattle.stream_grammar.specs.Shown.{open_shown, Steps};
+ghost use Rattle.stream_grammar.specs.Parts.{part_of};
+ghost use Rattle.stream_grammar.specs.Shown.{open_shown, AsksBy, Steps};
+ghost use Rattle.stream_grammar.specs.Stages.{HasMark};
 
 use crate::act::Done;
 use crate::fault::Fault;
@@ -36,8 +38,11 @@ pub fn is_commit(opened: Opened) -> bool
 /// after a fault.
 #[tactic(auto, unfolding(crate::specs::Commands::step))]
 pub fn take<'a>(alloc: Global, now: &mut Command, item: Item<'a>) -> Result<Done<'a>, Fault>
+    requires { HasMark now.old.stage now.old.mark }
     ensures steps { Steps result now.new (step (open_shown now.old) (item_of item.entry)) }
     ensures same { OnErr result (now.new ≡ now.old) }
+    ensures marked { HasMark now.new.stage now.new.mark }
+    ensures asks { AsksBy (part_of (item_of item.entry)) result }
 {
     let part = part_of(item);
     let opened = opened_of(now.stage);

@@ -3,10 +3,13 @@
 //! A parser holds the open command, or the fault that it has answered. It keeps nothing of the acts
 //! that it gave.
 
-ghost use Rattle.std.specs.Prelude.{◌≡◌, ◌≢◌, Err};
+ghost use Rattle.std.specs.Prelude.{◌≡◌, ◌≢◌, ◌∷◌, ◌++◌, List, [], Err};
+ghost use Rattle.stream_lex.specs.Items as items;
 ghost use Rattle.stream_lex.specs.Looking.{item_of};
-ghost use Rattle.stream_grammar.specs.Commands.{top, done_by, after, end_of};
-ghost use Rattle.stream_grammar.specs.Shown.{Answers};
+ghost use Rattle.stream_grammar.specs.Commands as commands;
+ghost use Rattle.stream_grammar.specs.Commands.{Leads, top, done_by, after, end_of};
+ghost use Rattle.stream_grammar.specs.Parts.{part_of};
+ghost use Rattle.stream_grammar.specs.Shown.{Answers, AsksBy, given_shown};
 
 use crate::act::Done;
 use crate::command::{self, Command, is_commit};
@@ -31,6 +34,10 @@ impl Model for Parser {
     ghost Value = { Parsing };
 
     ghost view = { λ parser. parsing_shown parser.fault parser.command };
+
+    ghost use Rattle.stream_grammar.specs.Stages.{HasMark};
+
+    ghost invariant = { λ parser. HasMark parser.command.stage parser.command.mark };
 }
 
 impl Parser {
@@ -61,12 +68,19 @@ impl Parser {
     /// `BadMark` (12), `BadIdentity` (21) before `BadDate` (22), `BadMode` (23). A parser that has
     /// answered one of these answers it from then on, whatever comes.
     ///
+    /// `Act::Wait` comes only for the first line of a blob or an alias, `mark`, `original-oid`,
+    /// `option` and a blank line.
+    ///
     /// Takes memory for refs, idents and paths. `Fault::Memory` (90) may replace any answer but a
     /// fault that was answered before, and leaves the parser unchanged.
     pub fn take<'a>(&mut self, item: Item<'a>) -> Result<Done<'a>, Fault>
         ensures answers { Answers result (done_by self.old (item_of item.entry)) }
         ensures leaves { result ≢ Err Fault.Memory
             → self.new ≡ after self.old (item_of item.entry) }
+        ensures leads { (stream : List items.Item) (given : List commands.Done)
+            → result ≢ Err Fault.Memory → Leads stream given self.old
+            → Leads (stream ++ item_of item.entry ∷ []) (given ++ given_shown result) self.new }
+        ensures asks { AsksBy (part_of (item_of item.entry)) result }
         ensures unchanged { result ≡ Err Fault.Memory → self.new ≡ self.old }
         ensures failed { (fault : Fault) → self.old ≡ Err fault → result ≡ Err fault }
     {

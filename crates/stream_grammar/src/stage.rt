@@ -1,6 +1,6 @@
 //! Stages: which parts of the open command may still come.
 
-ghost use Rattle.std.specs.Prelude.{◌≡◌, IfSome};
+ghost use Rattle.std.specs.Prelude.{◌≡◌, IfSome, None};
 ghost use Rattle.std.specs.Option.{option_map};
 ghost use Rattle.stream_grammar.specs.declared.stage.Opened.TheVariants as opened;
 ghost use Rattle.stream_grammar.specs.Commands.{opened_by, opened_by_line};
@@ -122,6 +122,7 @@ pub enum Fit {
 fn fit_in_blob(next: BlobNext, part: Part) -> Fit
     ensures fit { stages.fit_of result ≡ fit part (stages.blob_terms next) }
     ensures opened { stages.KeepsOpened opened.Blob part result }
+    ensures means { stages.Means (Stage.Blob next) part result }
 {
     match (part, next) {
         (Part::Header(HeaderLine::Mark), BlobNext::Mark) => Fit::Stands(Stage::Blob(
@@ -139,6 +140,7 @@ fn fit_in_blob(next: BlobNext, part: Part) -> Fit
 fn fit_in_commit(next: CommitNext, part: Part) -> Fit
     ensures fit { stages.fit_of result ≡ fit part (stages.commit_terms next) }
     ensures opened { stages.KeepsOpened opened.Commit part result }
+    ensures means { stages.Means (Stage.Commit next) part result }
 {
     use CommitNext::{Author, Committer, Data, Encoding, Mark, OriginalOid};
     match (part, next) {
@@ -162,6 +164,7 @@ fn fit_in_commit(next: CommitNext, part: Part) -> Fit
 fn fit_in_changes(next: ChangeNext, part: Part) -> Fit
     ensures fit { stages.fit_of result ≡ fit part (stages.change_terms next) }
     ensures opened { stages.KeepsOpened opened.Changes part result }
+    ensures means { stages.Means (Stage.Changes next) part result }
 {
     match (part, next) {
         (Part::CommitIsh(CommitIshLine::From), ChangeNext::From) => Fit::Stands(Stage::Changes(
@@ -183,6 +186,7 @@ fn fit_in_changes(next: ChangeNext, part: Part) -> Fit
 fn fit_inline(part: Part) -> Fit
     ensures fit { stages.fit_of result ≡ fit part (stages.terms_of Stage.Inline) }
     ensures opened { stages.KeepsOpened opened.Inline part result }
+    ensures means { stages.Means Stage.Inline part result }
 {
     match part {
         Part::Data => Fit::Stands(Stage::Changes(ChangeNext::Change)),
@@ -194,6 +198,7 @@ fn fit_inline(part: Part) -> Fit
 fn fit_in_tag(next: TagNext, part: Part) -> Fit
     ensures fit { stages.fit_of result ≡ fit part (stages.tag_terms next) }
     ensures opened { stages.KeepsOpened opened.Tag part result }
+    ensures means { stages.Means (Stage.Tag next) part result }
 {
     match (part, next) {
         (Part::Header(HeaderLine::Mark), TagNext::Mark) => Fit::Stands(Stage::Tag(TagNext::From)),
@@ -217,6 +222,7 @@ fn fit_in_tag(next: TagNext, part: Part) -> Fit
 fn fit_in_reset(next: ResetNext, part: Part) -> Fit
     ensures fit { stages.fit_of result ≡ fit part (stages.reset_terms next) }
     ensures opened { stages.KeepsOpened opened.Reset part result }
+    ensures means { stages.Means (Stage.Reset next) part result }
 {
     match (part, next) {
         (Part::CommitIsh(CommitIshLine::From), ResetNext::From) => Fit::Stands(Stage::Reset(
@@ -231,6 +237,7 @@ fn fit_in_reset(next: ResetNext, part: Part) -> Fit
 fn fit_in_alias(next: AliasNext, part: Part) -> Fit
     ensures fit { stages.fit_of result ≡ fit part (stages.alias_terms next) }
     ensures opened { stages.KeepsOpened opened.Alias part result }
+    ensures means { stages.Means (Stage.Alias next) part result }
 {
     match (part, next) {
         (Part::Header(HeaderLine::Mark), AliasNext::Mark) => Fit::Stands(Stage::Alias(
@@ -245,6 +252,7 @@ fn fit_in_alias(next: AliasNext, part: Part) -> Fit
 pub fn fit_of(stage: Stage, part: Part) -> Fit
     ensures fit { stages.fit_of result ≡ fit part (stages.terms_of stage) }
     ensures opened { stages.KeepsOpened (stages.opened_of stage) part result }
+    ensures means { stages.Means stage part result }
 {
     match stage {
         Stage::Top => Fit::Ends,
@@ -262,6 +270,7 @@ pub fn fit_of(stage: Stage, part: Part) -> Fit
 fn opening_stage(line: OpeningLine) -> Stage
     ensures terms { stages.terms_of result ≡ production line }
     ensures opened { stages.opened_of result ≡ opened_by_line line }
+    ensures marked { stages.HasMark result None }
 {
     match line {
         OpeningLine::Blob => Stage::Blob(BlobNext::Mark),
@@ -276,6 +285,7 @@ fn opening_stage(line: OpeningLine) -> Stage
 pub fn first_stage(part: Part) -> Option<Stage>
     ensures terms { option_map stages.terms_of result ≡ production_of part }
     ensures opened { IfSome result (λ stage. stages.opened_of stage ≡ opened_by part) }
+    ensures marked { IfSome result (λ stage. stages.HasMark stage None) }
 {
     match part {
         Part::Opening(line) => Some(opening_stage(line)),

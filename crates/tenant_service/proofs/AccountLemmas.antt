@@ -19,7 +19,7 @@ use Rattle.tenant_tables.proofs.HoldLemmas.{held-nil}
 use Rattle.tenant_tables.proofs.TableLemmas.{IsBackedBy-nil, PreservesOthers-refl, length-objects, other_stands, other_objects, objects-take}
 use Rattle.open_commits.specs.OpenCommit.{commit_in}
 use Rattle.revisions.specs.FirstParents.{IsFirstParentChain}
-use Rattle.stream_state.specs.StreamOf.{stream_with}
+use Rattle.stream_parts.specs.StreamOf.{stream_with}
 use Rattle.stream_commands.specs.State.{workspace_in}
 use Rattle.import_session.specs.Stream.{Runs, Refused}
 use Rattle.service_steps.specs.declared.answer.Answer.{Answer}

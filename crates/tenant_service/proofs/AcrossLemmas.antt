@@ -29,7 +29,7 @@ use Rattle.tenant_tables.proofs.HoldLemmas.{held-absent, held-at, object_named-o
 use Rattle.tenant_tables.proofs.RoomLemmas.{has_room}
 use Rattle.tenant_tables.proofs.TableLemmas.{IsBackedBy-kept, Keeps-put, Keeps-release, length-objects, objects-take}
 use Rattle.tenant_service.specs.Across.{HasFirst, MayAdd}
-use Rattle.table_copies.proofs.Copies.{told_of}
+use Rattle.tenant_tables.proofs.Copies.{told_of}
 
 -- ---- lists of entries
 

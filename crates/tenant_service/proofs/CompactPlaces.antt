@@ -6,7 +6,7 @@ use Rattle.std.proofs.lemmas.List.Elements.{All-append, All-cons, All-nil}
 use Rattle.git_model.specs.Reach.{is_referred_to}
 use Rattle.git_model.specs.References.{object_at}
 use Rattle.git_model.specs.Repository.{Object, Repository}
-use Rattle.table_copies.specs.Copied.{objects_at}
+use Rattle.tenant_tables.specs.Copied.{objects_at}
 use Rattle.export_text.specs.Marking.{reached_flags}
 use Rattle.export_text.proofs.Flagged.{kept-none, kept-one, within}
 use Rattle.tenant_service.specs.Compacting.{AreReached}

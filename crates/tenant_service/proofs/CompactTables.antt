@@ -11,7 +11,7 @@ use Rattle.tenant_tables.specs.Objects.{objects}
 use Rattle.tenant_tables.specs.View.{Entries, View}
 use Rattle.tenant_tables.proofs.HoldLemmas.{held-nil}
 use Rattle.tenant_tables.proofs.TableLemmas.{PreservesOthers-refl, length-objects, other_objects, other_stands}
-use Rattle.table_copies.specs.Copied.{IsCopied, objects_at}
+use Rattle.tenant_tables.specs.Copied.{IsCopied, objects_at}
 use Rattle.export_text.specs.Reached.{reached_objects}
 use Rattle.import_session.specs.Sound.{IsSoundRepository}
 use Rattle.tenant_service.specs.declared.tenant.OpenStream.{OpenStream}

@@ -38,20 +38,20 @@ use Rattle.open_commits.specs.Faults.{and_then as commit_then}
 use Rattle.open_commits.specs.OpenCommit.{OpenCommit, begun}
 use Rattle.open_commits.specs.Showing.{entry_shown, file_or_trees, found_shown}
 use Rattle.open_commits.specs.Storing.{stored, stored_or as commit_stored_or, trees_or, trees_stored}
-use Rattle.stream_state.specs.declared.fault.Fault.{Fault}
-use Rattle.stream_state.specs.declared.headers.CommitHeader.{CommitHeader}
-use Rattle.stream_state.specs.declared.headers.TagHeader.{TagHeader}
-use Rattle.stream_state.specs.Branches.{branch_set, tip_commit, tip_for}
-use Rattle.stream_state.specs.declared.branches.Tip.TheVariants.{Unborn}
-use Rattle.stream_state.specs.Checkpoints.{fit}
-use Rattle.stream_state.specs.Faults.{text_first}
-use Rattle.stream_state.specs.Marks.{marked_name, referred_name, room_for}
-use Rattle.stream_state.specs.OpenCommand.{OpenCommand, changes_in, commit_header_in, inline_in, reset_in, tag_header_in}
-use Rattle.stream_state.specs.OpenCommand as open_command
-use Rattle.stream_state.specs.Printing.{shown_object}
-use Rattle.stream_state.specs.Showing.{entry_shown as stored_entry_shown}
-use Rattle.stream_state.specs.Storing.{stored_or, with_content}
-use Rattle.stream_state.specs.Tags.{tag_content}
+use Rattle.stream_parts.specs.declared.fault.Fault.{Fault}
+use Rattle.stream_parts.specs.declared.headers.CommitHeader.{CommitHeader}
+use Rattle.stream_parts.specs.declared.headers.TagHeader.{TagHeader}
+use Rattle.stream_parts.specs.Branches.{branch_set, tip_commit, tip_for}
+use Rattle.stream_parts.specs.declared.branches.Tip.TheVariants.{Unborn}
+use Rattle.stream_parts.specs.Checkpoints.{fit}
+use Rattle.stream_parts.specs.Faults.{text_first}
+use Rattle.stream_parts.specs.Marks.{marked_name, referred_name, room_for}
+use Rattle.stream_parts.specs.OpenCommand.{OpenCommand, changes_in, commit_header_in, inline_in, reset_in, tag_header_in}
+use Rattle.stream_parts.specs.OpenCommand as open_command
+use Rattle.stream_parts.specs.Printing.{shown_object}
+use Rattle.stream_parts.specs.Showing.{entry_shown as stored_entry_shown}
+use Rattle.stream_parts.specs.Storing.{stored_or, with_content}
+use Rattle.stream_parts.specs.Tags.{tag_content}
 use Rattle.stream_commands.specs.Checkpoints.{checkpoint, saved_refs}
 use Rattle.stream_commands.specs.CommitIshes.{commit_in, ref_in}
 use Rattle.stream_commands.specs.Controls.{controlled, feature_set}

@@ -10,7 +10,7 @@ use Rattle.tenant_tables.specs.Objects.{objects}
 use Rattle.tenant_tables.proofs.TableLemmas.{length-objects}
 use Rattle.stream_lex.specs.Items.{Item, Tail, Rest, Failed}
 use Rattle.stream_lex.specs.Running.{extended}
-use Rattle.stream_state.specs.declared.fault.Fault.{Fault}
+use Rattle.stream_parts.specs.declared.fault.Fault.{Fault}
 use Rattle.stream_commands.specs.Workspace.{Workspace}
 use Rattle.import_session.specs.Session.{repository_in}
 use Rattle.import_session.specs.Stream.{Running, Step, Outcome, StreamStatus, Runs, Refused, at_tail, carried, going_on, last_checkpoint, step, tail_outcome}

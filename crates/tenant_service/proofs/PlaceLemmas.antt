@@ -16,8 +16,8 @@ use Rattle.tenant_tables.specs.Objects.{objects}
 use Rattle.tenant_tables.specs.View.{View}
 use Rattle.tenant_tables.proofs.TableLemmas.{length-objects, objects-take}
 use Rattle.export_laws.specs.Order.{copied_objects, objects_at}
-use Rattle.copy_places.specs.Copied.{AreCopied}
-use Rattle.table_copies.specs.Copied.{IsCopied}
+use Rattle.repository_copies.specs.Copied.{AreCopied}
+use Rattle.tenant_tables.specs.Copied.{IsCopied}
 use Rattle.tenant_service.specs.declared.tenant.OpenStream.TheVariants as phase
 use Rattle.tenant_service.specs.declared.tenant.Tenant.{Tenant}
 use Rattle.tenant_service.specs.ByPlaces.{Copies, IsCopy, IsKept, MayBeCopy}

@@ -4,7 +4,7 @@ use Rattle.std.specs.Str.{bytes_eq}
 use Rattle.git_model.specs.Repository.{Repository}
 use Rattle.content_pool.specs.Pool.{Cells}
 use Rattle.tenant_tables.specs.IsBackedBy.{PreservesOthers}
-use Rattle.table_copies.specs.Copied.{objects_at}
+use Rattle.tenant_tables.specs.Copied.{objects_at}
 use Rattle.export_text.specs.Reached.{reached_objects}
 use Rattle.export_laws.specs.Told.{AreOf}
 use Rattle.export_laws.specs.Whole.{HasReached}

@@ -5,7 +5,7 @@
 
 ghost use Rattle.std.specs.Prelude.{◌≡◌, ◌<◌, [], None, true, IfOk, IfSome, OnErr};
 ghost use Rattle.std.specs.Str.{bytes_eq};
-ghost use Rattle.copy_places.specs.Copied.{AreCopied};
+ghost use Rattle.repository_copies.specs.Copied.{AreCopied};
 ghost use Rattle.indexmap.specs.IndexMap.{insert_entry, spare};
 ghost use Rattle.tenant_refs.specs.TenantName.{is_tenant_name as names_tenant};
 ghost use Rattle.tenant_stream.specs.Carrying.{HasAmpleHoldsLeft};
@@ -21,15 +21,14 @@ ghost use Rattle.tenant_service.specs.Tenants.{Accounts, AreSound, Stands, holdi
 use crate::tenant::{OpenStream, Tenant};
 use crate::tenants::{has_room, name_of};
 use content_pool::Pool;
-use copy_places::copied_places;
 use git_objects::{Memory, Naming};
 use indexmap::IndexMap;
+use repository_copies::copied_places;
 use revisions::FirstParentCache;
 use service_steps::Answer;
 use std::alloc::Global;
-use table_copies::copied_table;
 use tenant_refs::TenantName;
-use tenant_tables::{Objects, Sight};
+use tenant_tables::{Objects, Sight, copied_table};
 
 // The places of the objects of a copy, among those of the last checkpoint. `None` if no export
 // carries the repository.

@@ -30,9 +30,8 @@ use indexmap::IndexMap;
 use service_steps::{Answer, ServiceFault};
 use std::alloc::Global;
 use std::mem;
-use table_copies::copied_table;
 use tenant_refs::TenantName;
-use tenant_tables::{Objects, Sight, Table};
+use tenant_tables::{Objects, Sight, Table, copied_table};
 
 // The places that have a flag, in their order.
 fn flagged_places(alloc: Global, flags: &[bool]) -> Result<Vec<usize>, Memory>

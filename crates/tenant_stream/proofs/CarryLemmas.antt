@@ -8,9 +8,9 @@ use Rattle.stream_lex.specs.declared.fault.Fault.TheVariants as lex_fault
 use Rattle.stream_lex.specs.Lexer.{GivesFirst}
 use Rattle.stream_lex.specs.Items.{Item, Tail, Failed, after_items}
 use Rattle.stream_lex.specs.Running.{extended, more_of, Takes as TakesItem, ReadsAlike, HasNoItem}
-use Rattle.stream_state.specs.declared.fault.Fault.{Fault}
-use Rattle.stream_state.specs.declared.fault.Fault.TheVariants as fault
-use Rattle.stream_state.specs.Faults.{code_of}
+use Rattle.stream_parts.specs.declared.fault.Fault.{Fault}
+use Rattle.stream_parts.specs.declared.fault.Fault.TheVariants as fault
+use Rattle.stream_parts.specs.Faults.{code_of}
 use Rattle.import_session.specs.Session.{Takes}
 use Rattle.import_session.specs.Stream.{Running, Step, Outcome, after_reply, carried, going_on, at_tail, last_checkpoint, refused, step}
 use Rattle.tenant_stream.specs.declared.stream_error.StreamError.{StreamError}

@@ -6,9 +6,9 @@ use Rattle.stream_lex.specs.declared.fault.Fault.TheVariants as lex_fault
 use Rattle.stream_lex.specs.Faults.{code_of as item_code}
 use Rattle.stream_lex.specs.Items.{Tail, Rest, Failed}
 use Rattle.stream_lex.specs.Lexer.{ended as lex_ended}
-use Rattle.stream_state.specs.declared.fault.Fault.{Fault}
-use Rattle.stream_state.specs.declared.fault.Fault.TheVariants as fault
-use Rattle.stream_state.specs.Faults.{code_of}
+use Rattle.stream_parts.specs.declared.fault.Fault.{Fault}
+use Rattle.stream_parts.specs.declared.fault.Fault.TheVariants as fault
+use Rattle.stream_parts.specs.Faults.{code_of}
 use Rattle.stream_commands.specs.Workspace.{Workspace, Effect}
 use Rattle.stream_commands.specs.State.{CarriesOut}
 use Rattle.import_session.specs.Stream.{Running, Runs, End, ended_well, ended_by, end_left, running_end, finished, session_end, last_checkpoint}

@@ -6,7 +6,7 @@ use Rattle.git_names.specs.Naming.{AnswersNames}
 use Rattle.content_pool.specs.Pool.{Cells}
 use Rattle.tenant_tables.specs.View.{View}
 use Rattle.stream_lex.specs.Items.{Item, Tail, Rest, Failed}
-use Rattle.stream_state.specs.declared.fault.Fault.{Fault}
+use Rattle.stream_parts.specs.declared.fault.Fault.{Fault}
 use Rattle.stream_commands.specs.Workspace.{Effect}
 use Rattle.import_session.specs.Stream.{Running, Step, Outcome, StreamStatus, Runs, Refused, at_tail, carried, end_left, ended_well, finished, going_on, last_checkpoint, running_end, session_end, step, tail_outcome}
 use Rattle.import_session.specs.Sound.{IsSound, IsSoundRepository}

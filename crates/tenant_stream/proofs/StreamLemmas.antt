@@ -3,7 +3,7 @@ use Rattle.std.proofs.Common.{◌≡◌, ℕ, Bool, true, false, cond, List, [],
 use Rattle.stream_lex.specs.Items.{Item, Tail, Rest, Failed, Reading, after_items}
 use Rattle.stream_lex.specs.Reading.{reading}
 use Rattle.stream_lex.specs.Running.{more_of, extended}
-use Rattle.stream_state.specs.declared.fault.Fault.{Fault}
+use Rattle.stream_parts.specs.declared.fault.Fault.{Fault}
 use Rattle.import_session.specs.Stream.{Running, Step, StreamStatus, Runs, after_reply, carried, going_on, step, taken, at_tail, tail_outcome}
 use Rattle.tenant_stream.specs.Carrying.{IsDrained, outcome_after}
 

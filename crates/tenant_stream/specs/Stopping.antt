@@ -1,8 +1,8 @@
 -- Why a stream stops: running out of memory is told apart from every fault of the stream.
 use Rattle.std.specs.Prelude.{ℕ}
-use Rattle.stream_state.specs.declared.fault.Fault.{Fault}
-use Rattle.stream_state.specs.declared.fault.Fault.TheVariants as fault
-use Rattle.stream_state.specs.Faults.{code_of}
+use Rattle.stream_parts.specs.declared.fault.Fault.{Fault}
+use Rattle.stream_parts.specs.declared.fault.Fault.TheVariants as fault
+use Rattle.stream_parts.specs.Faults.{code_of}
 use Rattle.stream_lex.specs.declared.fault.Fault.{Fault as LexFault}
 use Rattle.stream_lex.specs.declared.fault.Fault.TheVariants as lex_fault
 use Rattle.stream_lex.specs.Faults.{code_of as item_code}

@@ -14,3 +14,4 @@ pub mod FoundLemmas
 pub mod StoredGood
 pub mod InSight
 pub mod Positions
+pub mod Copies

@@ -11,3 +11,4 @@ pub mod Trees
 pub mod Sums
 pub mod Abbreviation
 pub mod Index
+pub mod Copied

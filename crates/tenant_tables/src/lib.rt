@@ -7,6 +7,7 @@
 #![tactic(auto)]
 
 mod abbreviation;
+mod copying;
 mod entry;
 mod entry_list;
 mod fault;
@@ -21,6 +22,7 @@ mod summary;
 mod table;
 
 pub use abbreviation::bounds;
+pub use copying::copied_table;
 pub use fault::Fault;
 pub use found::Found;
 pub use objects::Objects;

@@ -1,6 +1,6 @@
 -- A sum of summaries within the limits has parts within them. Sums entry by entry, and chunk by chunk.
 use Rattle.std.proofs.Common.{◌≡◌, ℕ, suc, ◌+◌, ◌<◌, List, [], ◌∷◌, ◌++◌, length, drop, get_or, refl, sym, ap, ◌∙◌, subst, arith, drop-cons}
-use Rattle.std.specs.Global.{Vec}
+use Rattle.tree_build.specs.declared.dir.Chunk.{Chunk}
 use Rattle.tenant_tables.specs.declared.summary.Summary.{Summary}
 use Rattle.tenant_tables.specs.View.{Entries}
 use Rattle.tenant_tables.specs.Trees.{both, entry_summary}
@@ -50,20 +50,20 @@ next-small table es i x sum total lt at is h =
     (subst IsSmall (sym (next-sum table es i x sum total lt at is)) h)
 
 -- one more of the chunks that are left
-pub chunk-sum : (table : Entries) (vs : Chunks) (i : ℕ) (v : Vec Row) (sum total : Summary)
+pub chunk-sum : (table : Entries) (vs : Chunks) (i : ℕ) (v : Chunk) (sum total : Summary)
     → i < length vs → v ≡ get_or vs i v → sum_with table sum (all (drop i vs)) ≡ total
-    → sum_with table (sum_with table sum v.items) (all (drop (i + 1) vs)) ≡ total
+    → sum_with table (sum_with table sum v.entries.items) (all (drop (i + 1) vs)) ≡ total
 chunk-sum table vs i v sum total lt at is =
     let one : i + 1 ≡ suc i = omega arith in
-    ap (λ (k : ℕ). sum_with table (sum_with table sum v.items) (all (drop k vs))) one
-    ∙ sym (sum-append table sum v.items (all (drop (suc i) vs)))
+    ap (λ (k : ℕ). sum_with table (sum_with table sum v.entries.items) (all (drop k vs))) one
+    ∙ sym (sum-append table sum v.entries.items (all (drop (suc i) vs)))
     ∙ ap (λ (l : Chunks). sum_with table sum (all l))
-    (sym (drop-cons vs i v lt ∙ ap (λ (y : Vec Row). y ∷ drop (suc i) vs) (sym at)))
+    (sym (drop-cons vs i v lt ∙ ap (λ (y : Chunk). y ∷ drop (suc i) vs) (sym at)))
     ∙ is
 
-pub chunk-small : (table : Entries) (vs : Chunks) (i : ℕ) (v : Vec Row) (sum total : Summary)
+pub chunk-small : (table : Entries) (vs : Chunks) (i : ℕ) (v : Chunk) (sum total : Summary)
     → i < length vs → v ≡ get_or vs i v → sum_with table sum (all (drop i vs)) ≡ total → IsSmall total
-    → IsSmall (sum_with table sum v.items)
+    → IsSmall (sum_with table sum v.entries.items)
 chunk-small table vs i v sum total lt at is h =
-    before-small table (sum_with table sum v.items) (all (drop (i + 1) vs))
+    before-small table (sum_with table sum v.entries.items) (all (drop (i + 1) vs))
     (subst IsSmall (sym (chunk-sum table vs i v sum total lt at is)) h)

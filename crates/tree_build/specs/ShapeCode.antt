@@ -88,4 +88,4 @@ shape_size none = 0
 shape_size (row c w inside rest) = max (suc (shape_size inside)) (shape_size rest)
 
 abbrev pub directory_size : Directory → ℕ
-directory_size d = 2 * shape_size d.entries + 1
+directory_size d = 3 * shape_size d.entries + 2

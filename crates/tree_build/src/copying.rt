@@ -50,12 +50,12 @@ fn copied_entries(alloc: Global, entries: &Entries) -> Result<Entries, Memory>
     ensures { IfOk result (λ copies. shape_of copies.items
         ≡ copied_shape (shape_of entries.now.items)) }
 {
-    let mut copies = Vec::with_capacity(alloc, entries.len())?;
+    let mut copies = Entries::with_capacity(alloc, entries.len())?;
     for place in 0..entries.len() {
         let entry = entries.at(place);
-        copies.push((entry.0.copied(alloc)?, copied(alloc, &entry.1)?))?;
+        copies.push(alloc, (entry.0.copied(alloc)?, copied(alloc, &entry.1)?))?;
     }
-    Entries::of(alloc, copies)
+    Ok(copies)
 }
 
 /// The node at a path below another. The caller has opened the directories on the way.

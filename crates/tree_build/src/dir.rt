@@ -22,14 +22,25 @@ pub(crate) struct Dir {
     pub(crate) place: usize,
 }
 
-/// The direct entries of a directory, in their order. Only the module `chunks` looks into the chunks.
+/// The direct entries of a directory, in their order. Only the module `chunks` looks
+/// into the chunks.
 #[cycle(dir)]
 #[derive(Drop)]
 pub(crate) struct Entries {
     /// How many entries all chunks have.
     pub(crate) len: usize,
     /// The entries, one chunk after the other.
-    pub(crate) chunks: Vec<Vec<(Component, Node)>>,
+    pub(crate) chunks: Vec<Chunk>,
+}
+
+/// Some entries of a directory.
+#[cycle(dir)]
+#[derive(Drop)]
+pub(crate) struct Chunk {
+    /// How many entries of the directory stand before them.
+    pub(crate) start: usize,
+    /// The entries, in their order.
+    pub(crate) entries: Vec<(Component, Node)>,
 }
 
 /// What a direct entry is: a file or a directory.
@@ -46,7 +57,7 @@ impl Model for Entries {
     ghost use Rattle.std.specs.Prelude.{◌≡◌, length};
     ghost use Rattle.std.specs.Coded.{codes};
     ghost use Rattle.tree_build.specs.ShapeCode.{directory_code};
-    ghost use Rattle.tree_build.specs.Chunks.{Listing, all, listing_size};
+    ghost use Rattle.tree_build.specs.Chunks.{Listing, all, AreStarts, listing_size};
 
     ghost Value = { Listing };
 
@@ -54,7 +65,8 @@ impl Model for Entries {
 
     ghost view = { λ e. record { items = all e.chunks.items } };
 
-    ghost invariant = { λ e. e.len ≡ length (all e.chunks.items) };
+    ghost invariant = { λ e. (e.len ≡ length (all e.chunks.items))
+        × AreStarts e.chunks.items };
 
     ghost size = { listing_size };
 

@@ -44,13 +44,13 @@ fn row_of(alloc: Global, entry: &TreeEntry<'_>) -> Result<(Component, Node), Mem
 }
 
 // The names and nodes of the entries of a tree.
-fn rows_of(alloc: Global, entries: &[TreeEntry<'_>]) -> Result<Vec<(Component, Node)>, Memory>
+fn rows_of(alloc: Global, entries: &[TreeEntry<'_>]) -> Result<Entries, Memory>
     requires { All CanWriteEntry (entries_of entries.now) }
     ensures { IfOk result (λ rows. shape_of rows.items ≡ tree_shape (entries_of entries.now)) }
 {
-    let mut rows = Vec::with_capacity(alloc, entries.len())?;
+    let mut rows = Entries::with_capacity(alloc, entries.len())?;
     for entry in entries {
-        rows.push(row_of(alloc, entry)?)?;
+        rows.push(alloc, row_of(alloc, entry)?)?;
     }
     Ok(rows)
 }
@@ -69,7 +69,7 @@ pub(crate) fn open<N: Naming>(
 {
     let entries = read_entries(alloc, pool, table, id)?;
     Ok(Dir {
-        entries: Entries::of(alloc, rows_of(alloc, &entries)?)?,
+        entries: rows_of(alloc, &entries)?,
         tree: Some(*id),
         place: table.place(id).unwrap_or(0),
     })

@@ -11,7 +11,7 @@ ghost use Rattle.tree_build.specs.Stores.{AreNamed, IsNamed, entries_of_shape, e
 ghost use Rattle.tree_build.specs.Sums.{IsSmall, sum_with};
 
 use crate::component::Component;
-use crate::dir::Node;
+use crate::dir::{Chunk, Node};
 use file_maps::Entry;
 use git_objects::{FileMode, Name};
 use tenant_tables::{Summary, Table};
@@ -122,7 +122,7 @@ fn sum_with(table: &Table, before: Summary, chunk: &[(Component, Node)]) -> Summ
 
 /// The summary of the tree that has the entries of all chunks. The trees of its directories are in
 /// the table.
-pub(crate) fn summary_of(table: &Table, chunks: &[Vec<(Component, Node)>]) -> Summary
+pub(crate) fn summary_of(table: &Table, chunks: &[Chunk]) -> Summary
     requires named { AreNamed (shape_of (all chunks.now)) }
     requires small { IsSmall (tree_summary table.now.entries
         (entries_of_shape (shape_of (all chunks.now)))) }
@@ -131,7 +131,7 @@ pub(crate) fn summary_of(table: &Table, chunks: &[Vec<(Component, Node)>]) -> Su
 {
     let mut sum = no_files();
     for chunk in chunks {
-        sum = sum_with(table, sum, chunk);
+        sum = sum_with(table, sum, &chunk.entries);
     }
     sum
 }

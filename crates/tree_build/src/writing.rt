@@ -10,7 +10,7 @@ ghost use Rattle.tree_build.specs.Nodes.{held, shape_of};
 ghost use Rattle.tree_build.specs.Stores.{IsNamed, AreNamed, entry_of_what, entries_of_shape};
 
 use crate::component::Component;
-use crate::dir::Node;
+use crate::dir::{Chunk, Node};
 use crate::storing::row_of;
 use git_objects::{Memory, TreeEntry, has_twenty_bytes, mode_digits};
 use std::alloc::Global;
@@ -33,10 +33,10 @@ fn size_of_chunk(chunk: &[(Component, Node)]) -> usize {
 }
 
 // How many bytes the contents take, so that they are written into one allocation.
-fn size_of(chunks: &[Vec<(Component, Node)>]) -> usize {
+fn size_of(chunks: &[Chunk]) -> usize {
     let mut size: usize = 0;
     for chunk in chunks {
-        size = size.saturating_add(size_of_chunk(chunk));
+        size = size.saturating_add(size_of_chunk(&chunk.entries));
     }
     size
 }
@@ -79,10 +79,7 @@ fn append_chunk(contents: &mut Vec<u8>, chunk: &[(Component, Node)]) -> Result<(
 
 /// The contents of the tree that has the entries of all chunks, in an allocation of exactly their
 /// size.
-pub(crate) fn contents_of(
-    alloc: Global,
-    chunks: &[Vec<(Component, Node)>],
-) -> Result<Vec<u8>, Memory>
+pub(crate) fn contents_of(alloc: Global, chunks: &[Chunk]) -> Result<Vec<u8>, Memory>
     requires { AreNamed (shape_of (all chunks.now)) }
     ensures contents { IfOk result (λ v. v.items
         ≡ tree_contents (entries_of_shape (shape_of (all chunks.now)))) }
@@ -91,7 +88,7 @@ pub(crate) fn contents_of(
 {
     let mut contents = Vec::with_capacity(alloc, size_of(chunks))?;
     for chunk in chunks {
-        append_chunk(&mut contents, chunk)?;
+        append_chunk(&mut contents, &chunk.entries)?;
     }
     Ok(contents)
 }

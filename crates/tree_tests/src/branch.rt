@@ -50,6 +50,16 @@ pub fn first_otherwise(alloc: Global, cases: &[Case]) -> Option<(&'static str, u
     None
 }
 
+/// The same for this body alone, without the position.
+pub fn first_otherwise_of<B: Body>(alloc: Global, cases: &[Case]) -> Option<&'static str> {
+    for case in cases {
+        if first_wrong_of::<B>(alloc, case.steps).is_some() {
+            return Some(case.does);
+        }
+    }
+    None
+}
+
 /// The files of a branch, with the pool and the table that their trees are stored in.
 #[derive(Drop)]
 pub struct Branch<B: Body, N: Naming> {
@@ -67,6 +77,16 @@ fn code_of(answer: Result<(), Fault>) -> Option<u64> {
         Err(Fault::Memory) => None,
         Err(fault) => Some(u64::from(fault.code())),
     }
+}
+
+// The number at which the step of a round is next.
+fn next_number(step: &Step<'_>, number: u64) -> u64 {
+    let count = number_in(step.first).unwrap_or(0);
+    let further = number_in(step.second).unwrap_or(0);
+    number
+        .saturating_add(further)
+        .checked_rem(count)
+        .unwrap_or(0)
 }
 
 // The mode of a line of `git ls-tree -r`.
@@ -202,7 +222,42 @@ impl<B: Body, N: Naming> Branch<B, N> {
             self.clear();
             true
         } else {
-            false
+            self.goes_round(step)
+        }
+    }
+
+    // Puts or drops numbered files of one directory.
+    fn goes_round(&mut self, step: &Step<'_>) -> bool {
+        match number_in(step.third) {
+            Some(files) => self.edits_round(step, files),
+            None => false,
+        }
+    }
+
+    fn edits_round(&mut self, step: &Step<'_>, files: u64) -> bool {
+        let mut number: u64 = 0;
+        for _ in 0..files {
+            if !self.edits_numbered(step, number) {
+                return false;
+            }
+            number = next_number(step, number);
+        }
+        true
+    }
+
+    fn edits_numbered(&mut self, step: &Step<'_>, number: u64) -> bool {
+        let digits = number.saturating_add(1_000);
+        match format!(in self.alloc; "d/f{digits}") {
+            Ok(path) => self.puts_or_drops(step, path.as_bytes()),
+            Err(_) => false,
+        }
+    }
+
+    fn puts_or_drops(&mut self, step: &Step<'_>, path: &[u8]) -> bool {
+        if is(step, b"put-round") {
+            self.put(path, HELLO) == Some(0)
+        } else {
+            is(step, b"drop-round") && self.drop_path(path) == Some(0)
         }
     }
 

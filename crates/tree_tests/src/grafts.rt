@@ -1,7 +1,6 @@
 //! Stored trees that are put at a path, compared with the names that Git gives.
 
-use crate::branch::{Case, first_otherwise, first_wrong, first_wrong_of};
-use std::alloc::Global;
+use crate::branch::{Case, first_otherwise, first_otherwise_of, first_wrong};
 use tree_build::Files;
 
 const CASES: &[Case] = &[
@@ -156,19 +155,9 @@ const LARGE: &[Case] = &[
     },
 ];
 
-// What the first of the large cases does that goes otherwise than it says.
-fn first_large_otherwise(alloc: Global) -> Option<&'static str> {
-    for case in LARGE {
-        if first_wrong_of::<Files>(alloc, case.steps).is_some() {
-            return Some(case.does);
-        }
-    }
-    None
-}
-
 #[test]
 fn large_directories_are_moved_by_name(rt: HostRuntime) {
-    assert_eq!(rt; first_large_otherwise(rt.alloc()), None);
+    assert_eq!(rt; first_otherwise_of::<Files>(rt.alloc(), LARGE), None);
 }
 
 #[test]

@@ -11,6 +11,8 @@ mod files;
 #[cfg(test)]
 mod grafts;
 #[cfg(test)]
+mod large_directories;
+#[cfg(test)]
 mod made_by_git;
 #[cfg(test)]
 mod random_edits;

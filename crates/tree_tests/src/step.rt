@@ -10,11 +10,14 @@
 //! put-line FILE          rename PATH PATH                store NAME
 //! add-hello              drop PATH                       stored OBJECTS
 //! clear                                                  reads TEXTS
+//! put-round COUNT STEP FILES
+//! drop-round COUNT STEP FILES
 //! ```
 //!
 //! The path of the root is `/`. A long path has so many components, each of so many `a`; many files
-//! are so many in each of so many directories; a file is a line of `git ls-tree -r`. A name is 40
-//! digits, `hello` for the blob of `hello` and a line feed, which `add-hello` adds, or `empty` for
+//! are so many in each of so many directories; a file is a line of `git ls-tree -r`. `put-round` and
+//! `drop-round` go round COUNT numbers, STEP numbers further each time, and put or drop a file of the
+//! directory `d` at each of FILES numbers, from `d/f1000` for 0 on. A name is 40 digits, `hello` for the blob of `hello` and a line feed, which `add-hello` adds, or `empty` for
 //! the empty tree. `mode`, `none` and `tree` look up what stands at a path, `store` says the name
 //! under which the root is stored, `stored` how many objects there are then, and `reads` how many
 //! trees were read, where the body counts them.

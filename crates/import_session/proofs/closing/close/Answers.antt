@@ -1,8 +1,8 @@
 use Rattle.std.proofs.Common.{◌≡◌, ◌≢◌, List, ℕ, Result, Ok, Err, sym}
 use Rattle.std.specs.Prelude.{MatchResult}
 use Rattle.tenant_tables.specs.Objects.{objects}
-use Rattle.stream_state.specs.declared.fault.Fault.{Fault}
-use Rattle.stream_state.specs.declared.fault.Fault.TheVariants as fault
+use Rattle.stream_parts.specs.declared.fault.Fault.{Fault}
+use Rattle.stream_parts.specs.declared.fault.Fault.TheVariants as fault
 use Rattle.stream_commands.specs.Workspace.{Workspace}
 use Rattle.import_session.specs.Session.{Leaves}
 use Rattle.stream_commands.proofs.HeldLemmas.{where_ok}

@@ -2,7 +2,7 @@ use Rattle.std.proofs.Common.{ap, sym, ◌∙◌}
 use Rattle.tenant_tables.specs.Objects.{objects}
 use Rattle.tree_build.specs.Branch.{files_in}
 use Rattle.open_commits.specs.OpenCommit.{header_shown}
-use Rattle.import_session.specs.Commits.{started_or_cleared}
+use Rattle.import_session.specs.Opening.{started_or_cleared}
 use Rattle.import_session.proofs.CommitLemmas.{begun_on_first}
 use Rattle.import_session.proofs.opening.begin.Goals as goal
 

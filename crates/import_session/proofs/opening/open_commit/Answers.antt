@@ -2,7 +2,7 @@ use Rattle.std.proofs.Common.{Ok, ap, sym, subst}
 use Rattle.std.proofs.lemmas.Result.{err_from_is_err_and}
 use Rattle.tenant_tables.specs.Objects.{objects}
 use Rattle.open_commits.specs.OpenCommit.{commit_held, commit_in, header_shown}
-use Rattle.stream_state.specs.OpenCommand.{command_with}
+use Rattle.stream_parts.specs.OpenCommand.{command_with}
 use Rattle.stream_commands.specs.declared.open_command.OpenCommand.{OpenCommand as LentCommand}
 use Rattle.stream_commands.specs.State.{StreamState, command_shown, state_shown, workspace_in, CarriesOut}
 use Rattle.import_session.specs.Commits.{commit_opened, commit_said}

@@ -1,8 +1,8 @@
 use Rattle.std.proofs.Common.{◌≡◌, List, ℕ, Option, Ok, ap, sym, subst}
 use Rattle.open_commits.specs.OpenCommit.{begun, header_shown}
 use Rattle.tenant_tables.specs.Objects.{objects}
-use Rattle.stream_state.specs.Branches.{Branches, branch_set, tip_commit, tip_for}
-use Rattle.import_session.specs.Commits.{IsTipCommit}
+use Rattle.stream_parts.specs.Branches.{Branches, branch_set, tip_commit, tip_for}
+use Rattle.import_session.specs.Opening.{IsTipCommit}
 use Rattle.stream_commands.specs.State.{StreamState, state_shown, workspace_in}
 use Rattle.import_session.proofs.CommitLemmas.{opened_by}
 use Rattle.stream_commands.proofs.HeldLemmas.{where_ok}

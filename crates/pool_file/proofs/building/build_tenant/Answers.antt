@@ -10,6 +10,7 @@ use Rattle.pool_file_checks.specs.Tenants.{name_checks, number_checks}
 use Rattle.pool_file_checks.specs.Whole.{own_checks}
 use Rattle.pool_file_checks.proofs.Passing.{holds, passes_rest}
 use Rattle.pool_file.specs.Building.{objects_at}
+use Rattle.pool_file.specs.Tables.{BeginAlike}
 use Rattle.pool_file.proofs.Slots.{numbers_in}
 use Rattle.pool_file.proofs.Built.{counted_by}
 use Rattle.pool_file.proofs.building.build_tenant.Goals as goal
@@ -67,3 +68,8 @@ returns-clause-builds g c =
       };
       others = c.in_ok-table.ensures.others;
     }
+
+pub load_table-requires-clause-alike : goal.load_table-requires-clause-alike
+load_table-requires-clause-alike g c =
+    subst (λ (l : List ℕ). BeginAlike c.args.other.now.entries c.args.slots.now l c.args.count) (sym c.deref-2.ensures.value)
+    c.requires.alike

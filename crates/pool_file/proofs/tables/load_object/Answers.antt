@@ -1,25 +1,29 @@
-use Rattle.std.proofs.Common.{◌≡◌, sym, ap, ◌∙◌}
-use Rattle.std.specs.Map.{lookup}
-use Rattle.std.specs.Str.{bytes_eq}
-use Rattle.git_model.specs.Content.{name_by}
-use Rattle.pool_file.proofs.LoadedTables.{summed_as, loaded_as}
+use Rattle.std.proofs.Common.{sym, ap, subst, ◌∙◌}
+use Rattle.git_model.specs.Content.{Content}
+use Rattle.pool_file_checks.specs.Sums.{Fits}
+use Rattle.pool_file_checks.proofs.SumLemmas.{own_sum}
+use Rattle.pool_file.proofs.LoadedTables.{summed_own, loaded_own}
+use Rattle.pool_file.proofs.EntrySums.{fits_in, summary_own}
 use Rattle.pool_file.proofs.tables.load_object.Goals as goal
+
+pub summary_after-requires : goal.summary_after-requires
+summary_after-requires g c =
+    let can = c.requires.can in
+    fits_in c.args.table.now.entries can.0 c.get-kind.result.0 c.get-kind.result.1.now can.1.noted
+    (subst (λ (x : Content). Fits x.kind x.bytes can.0) (sym c.get-kind.ensures) can.1.fits)
 
 pub add_held-requires-clause-summed : goal.add_held-requires-clause-summed
 add_held-requires-clause-summed g c =
-    let D = g.N.Naming.digest_of in
-    let sums = c.note_sum.new.sums.entries in
-    let has = c.get-kind.ensures in
-    let found : c.copied.result ≡ lookup (bytes_eq c.args.id) sums = c.copied.ensures ∙ c.get.ensures.value in
-    summed_as D c.args.pool.now c.args.table.now c.args.sums.now.entries sums c.args.slot c.requires.can
-    c.get-kind.result.0 c.get-kind.result.1.now c.args.id c.copied.result has (c.requires.named ∙ ap (name_by D) (sym has)) found c.in_ok-note_sum.ensures
+    let can = c.requires.can in
+    summed_own g.N.Naming.digest_of c.args.pool.now c.args.table.now can.0 c.args.slot can.1 c.in_ok-sum.sum
+    (c.in_ok-sum.ensures
+    ∙ summary_own c.args.table.now.entries can.0 c.get-kind.result.0 c.get-kind.result.1.now can.1.noted
+    ∙ ap (λ (x : Content). own_sum x.kind x.bytes can.0) c.get-kind.ensures)
 
 pub returns : goal.returns
-returns g c =
-    let D = g.N.Naming.digest_of in
-    let sums = c.note_sum.new.sums.entries in
-    let has = c.get-kind.ensures in
-    let found : c.copied.result ≡ lookup (bytes_eq c.args.id) sums = c.copied.ensures ∙ c.get.ensures.value in
-    loaded_as D c.args.pool.now c.args.table.now c.args.sums.now.entries sums c.args.slot c.requires.can
-    c.get-kind.result.0 c.get-kind.result.1.now c.args.id c.copied.result has (c.requires.named ∙ ap (name_by D) (sym has)) found c.in_ok-note_sum.ensures
+returns g c = λ can.
+    loaded_own g.N.Naming.digest_of c.args.pool.now c.args.table.now can.0 c.args.slot can.1 c.in_ok-sum.sum
+    (c.in_ok-sum.ensures
+    ∙ summary_own c.args.table.now.entries can.0 c.get-kind.result.0 c.get-kind.result.1.now can.1.noted
+    ∙ ap (λ (x : Content). own_sum x.kind x.bytes can.0) c.get-kind.ensures)
     c.add_held.result c.add_held.new.pool c.add_held.new.self c.add_held.ensures.stands c.add_held.ensures.others c.add_held.ensures.ok

@@ -1,13 +1,16 @@
 use Rattle.std.proofs.Common.{◌<◌, ◌≤◌, ℕ, List, [], length, drop, get_or, sym, ap, subst, ◌∙◌, arith}
 use Rattle.std.proofs.lemmas.Bool.{OnTrue_at}
 use Rattle.tenant_tables.specs.declared.summary.Summary.{Summary}
+use Rattle.content_pool.specs.Pool.{content}
 use Rattle.tenant_tables.specs.View.{View}
 use Rattle.tenant_tables.specs.Objects.{objects}
 use Rattle.pool_file_checks.specs.Own.{own_objects}
 use Rattle.pool_file_checks.specs.Quick.{AreSums}
+use Rattle.pool_file_checks.specs.Sums.{Sums}
 use Rattle.pool_file_checks.proofs.OwnObjects.{own_length}
 use Rattle.pool_file.specs.Building.{objects_at}
-use Rattle.pool_file.proofs.Begun.{begun, begun_all}
+use Rattle.pool_file.specs.Tables.{sums_on}
+use Rattle.pool_file.proofs.Begun.{begun}
 use Rattle.pool_file.proofs.LoadedTables.{AreLoaded, MayLoad, any_default, loaded_all, names_reach, named_here, may_load, loaded_on}
 use Rattle.pool_file.proofs.tables.load_table.Goals as goal
 
@@ -22,31 +25,17 @@ known_table-requires-clause-known g c =
     (subst (λ (l : List ℕ). AreSums [] c.args.known.now.sums.items (own_objects g.N.Naming.digest_of os l))
     (OnTrue_at c.if-are_known.true c.are_known.ensures.numbers) c.requires.known)
 
-pub sums_of-requires : goal.sums_of-requires
-sums_of-requires g c = (c.start_table.new.pool, c.in_ok-table.ensures.ok.stands.summed)
-
-pub returns-then-len-numbers-clause-objects : goal.returns-then-len-numbers-clause-objects
-returns-then-len-numbers-clause-objects g c =
-    let q = c.requires in
-    let t = c.in_ok-table.ensures.ok in
-    let may : MayLoad g.N.Naming.digest_of c.args.pool.now c.args.slots.now c.args.numbers.now =
-    record { live = q.live; room = q.room; contents = q.contents; few = q.few; distinct = q.distinct } in
-    begun_all g.N.Naming.digest_of c.args.pool.now c.start_table.new.pool c.args.slots.now c.args.numbers.now
-    c.in_ok-table.table.entries may q.numbers q.trees t.stands t.others c.len.ensures.distinct t.alike
-    (let n = c.len.ensures.value in let y = c.if-len-numbers.true in omega (arith, n, y))
-
 pub loop-position-init : goal.loop-position-init
 loop-position-init g c =
     let q = c.requires in
-    let t = c.in_ok-table.ensures.ok in
+    let t = c.in_ok-table.ensures.ok c.args.slots.now c.args.numbers.now q.alike in
     let own = own_objects g.N.Naming.digest_of (objects_at c.args.pool.now c.args.slots.now) c.args.numbers.now in
     let may : MayLoad g.N.Naming.digest_of c.args.pool.now c.args.slots.now c.args.numbers.now =
     record { live = q.live; room = q.room; contents = q.contents; few = q.few; distinct = q.distinct } in
-    subst (λ (i : ℕ). AreLoaded g.N.Naming.digest_of c.args.pool.now c.start_table.new.pool c.in_ok-table.table.entries c.in_ok-sums.sums.entries (drop i own) own)
+    subst (λ (i : ℕ). (noted : Sums) × AreLoaded g.N.Naming.digest_of c.args.pool.now c.start_table.new.pool c.in_ok-table.table.entries noted (drop i own) own)
     (sym c.len-position.ensures.value)
     (begun g.N.Naming.digest_of c.args.pool.now c.start_table.new.pool c.args.slots.now c.args.numbers.now
-    c.in_ok-table.table.entries may q.numbers q.trees t.stands t.others c.len.ensures.distinct t.alike
-    c.in_ok-sums.sums.entries c.in_ok-sums.ensures)
+    c.in_ok-table.table.entries may q.numbers q.trees t.stands t.others c.len-position.ensures.distinct t.alike)
 
 pub bounds-names-place : goal.bounds-names-place
 bounds-names-place g c =
@@ -77,8 +66,8 @@ load_object-requires-clause-named g c =
     let within : n < length c.args.slots.now = q.numbers i 0 l in
     let may : MayLoad g.N.Naming.digest_of c.args.pool.now c.args.slots.now numbers =
     record { live = q.live; room = q.room; contents = q.contents; few = q.few; distinct = q.distinct } in
-    named_here g.N.Naming.digest_of c.args.pool.now at.pool c.args.slots.now numbers at.table.entries at.sums.entries may i n c.index-slots-place.result
-    l is within c.index-slots-place.is at.invariant
+    named_here g.N.Naming.digest_of c.args.pool.now at.pool c.args.slots.now numbers at.table.entries at.invariant.0 may i n c.index-slots-place.result
+    l is within c.index-slots-place.is at.invariant.1
     c.args.names.now c.index-names-place.result q.named c.index-names-place.is
 
 pub load_object-requires-clause-can : goal.load_object-requires-clause-can
@@ -92,9 +81,11 @@ load_object-requires-clause-can g c =
     let is = any_default numbers i 0 n l in
     let within : n < length c.args.slots.now = q.numbers i 0 l in
     let may : MayLoad g.N.Naming.digest_of c.args.pool.now c.args.slots.now numbers =
-    record { live = q.live; room = q.room; contents = q.contents; few = q.few; distinct = q.distinct } in
-    may_load g.N.Naming.digest_of c.args.pool.now at.pool c.args.slots.now numbers at.table.entries at.sums.entries may i n c.index-slots-place.result
-    l is within c.index-slots-place.is at.invariant
+    record { live = q.live; room = q.room; contents = q.contents; few = q.few; distinct = q.distinct } in (
+      at.invariant.0,
+      may_load g.N.Naming.digest_of c.args.pool.now at.pool c.args.slots.now numbers at.table.entries at.invariant.0 may i n c.index-slots-place.result
+          l is within c.index-slots-place.is at.invariant.1,
+    )
 
 pub loop-position-preserved : goal.loop-position-preserved
 loop-position-preserved g c =
@@ -108,9 +99,15 @@ loop-position-preserved g c =
     let within : n < length c.args.slots.now = q.numbers i 0 l in
     let may : MayLoad g.N.Naming.digest_of c.args.pool.now c.args.slots.now numbers =
     record { live = q.live; room = q.room; contents = q.contents; few = q.few; distinct = q.distinct } in
-    loaded_on g.N.Naming.digest_of c.args.pool.now at.pool c.args.slots.now numbers at.table.entries at.sums.entries may i n c.index-slots-place.result
-    l is within c.index-slots-place.is at.invariant
-    c.load_object.new.pool c.load_object.new.table.entries c.load_object.new.sums.entries c.in_ok-load_object.ensures
+    let slot = c.index-slots-place.result in
+    let can = may_load g.N.Naming.digest_of c.args.pool.now at.pool c.args.slots.now numbers at.table.entries at.invariant.0 may i n slot
+    l is within c.index-slots-place.is at.invariant.1 in (
+      sums_on g.N.Naming.digest_of (content at.pool slot) at.invariant.0,
+      loaded_on g.N.Naming.digest_of c.args.pool.now at.pool c.args.slots.now numbers at.table.entries at.invariant.0 may i n slot
+          l is within c.index-slots-place.is at.invariant.1
+          c.load_object.new.pool c.load_object.new.table.entries (sums_on g.N.Naming.digest_of (content at.pool slot) at.invariant.0)
+          (c.in_ok-load_object.ensures (at.invariant.0, can)),
+    )
 
 pub returns-clause-objects : goal.returns-clause-objects
 returns-clause-objects g c =
@@ -119,4 +116,4 @@ returns-clause-objects g c =
     let size = own_length g.N.Naming.digest_of (objects_at c.args.pool.now c.args.slots.now) c.args.numbers.now in
     let past : length own ≤ at.position = let l = c.loop-position-test.false in omega (arith, l, size) in
     ap (λ (v : View). objects at.pool v.entries) c.commit.ensures
-    ∙ loaded_all g.N.Naming.digest_of c.args.pool.now at.pool at.table.entries at.sums.entries own at.position past at.invariant
+    ∙ loaded_all g.N.Naming.digest_of c.args.pool.now at.pool at.table.entries at.invariant.0 own at.position past at.invariant.1

@@ -1,5 +1,5 @@
 use Rattle.std.proofs.Common.{List, ℕ, Option, ap, ◌∙◌, ◌++◌}
-use Rattle.stream_state.specs.Checkpoints.{by_head}
+use Rattle.stream_parts.specs.Checkpoints.{by_head}
 use Rattle.stream_commands.specs.State.{state_shown}
 use Rattle.stream_commands.proofs.CheckpointLemmas.{well_saved}
 use Rattle.stream_commands.proofs.checkpoint.save.Goals as goal

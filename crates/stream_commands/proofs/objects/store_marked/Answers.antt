@@ -2,7 +2,7 @@ use Rattle.std.proofs.Common.{ap, ◌∙◌}
 use Rattle.git_model.specs.declared.kind.Kind.TheVariants as kind
 use Rattle.git_model.specs.Content.{content_from}
 use Rattle.tenant_tables.specs.Objects.{objects}
-use Rattle.stream_state.specs.Marks.{Marks, with_mark}
+use Rattle.stream_parts.specs.Marks.{Marks, with_mark}
 use Rattle.stream_commands.specs.Objects.{object_stored}
 use Rattle.stream_commands.proofs.ActLemmas.{blob_carried}
 use Rattle.stream_commands.proofs.HeldLemmas.{files_grown}

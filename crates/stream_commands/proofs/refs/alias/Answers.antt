@@ -2,9 +2,9 @@ use Rattle.std.proofs.Common.{Some, Err}
 use Rattle.std.proofs.lemmas.Result.{err_from_is_err_and}
 use Rattle.git_model.specs.declared.kind.Kind.TheVariants as kind
 use Rattle.stream_grammar.specs.Shown.{commit_shown}
-use Rattle.stream_state.specs.Faults.{and_then}
+use Rattle.stream_parts.specs.Faults.{and_then}
 use Rattle.stream_commands.specs.Workspace.{quiet}
-use Rattle.stream_state.specs.Marks.{room_for, with_mark}
+use Rattle.stream_parts.specs.Marks.{room_for, with_mark}
 use Rattle.stream_commands.specs.CommitIshes.{commit_in}
 use Rattle.stream_commands.specs.Refs.{ref_set}
 use Rattle.stream_commands.specs.State.{state_shown, workspace_in}

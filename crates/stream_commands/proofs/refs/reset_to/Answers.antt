@@ -1,10 +1,10 @@
 use Rattle.std.proofs.Common.{sym}
 use Rattle.std.proofs.lemmas.Result.{err_from_is_err_and}
 use Rattle.stream_grammar.specs.Shown.{commit_shown}
-use Rattle.stream_state.specs.declared.branches.Tip.{Tip}
+use Rattle.stream_parts.specs.declared.branches.Tip.{Tip}
 use Rattle.stream_commands.specs.Workspace.{quiet}
-use Rattle.stream_state.specs.Branches.{with_branch}
-use Rattle.stream_state.specs.OpenCommand.{Nothing}
+use Rattle.stream_parts.specs.Branches.{with_branch}
+use Rattle.stream_parts.specs.OpenCommand.{Nothing}
 use Rattle.stream_commands.specs.Refs.{ref_set, tip_from}
 use Rattle.stream_commands.specs.State.{state_shown, workspace_in}
 use Rattle.stream_commands.proofs.ActLemmas.{first_refused}

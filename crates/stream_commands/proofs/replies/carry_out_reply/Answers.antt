@@ -2,9 +2,9 @@ use Rattle.std.proofs.Common.{Ok, refl, ◌∙◌, append_assoc, codes}
 use Rattle.hex.specs.Hex.{encode_lower}
 use Rattle.git_model.specs.Repository.{object_named}
 use Rattle.tenant_tables.specs.Objects.{objects}
-use Rattle.stream_state.specs.Marks.{marked_name, referred_name}
-use Rattle.stream_state.specs.Printing.{shown_object}
-use Rattle.stream_state.specs.Showing.{entry_shown}
+use Rattle.stream_parts.specs.Marks.{marked_name, referred_name}
+use Rattle.stream_parts.specs.Printing.{shown_object}
+use Rattle.stream_parts.specs.Showing.{entry_shown}
 use Rattle.stream_commands.specs.Replies.{replied}
 use Rattle.stream_commands.proofs.ActLemmas.{line_carried, named_carried}
 use Rattle.stream_commands.proofs.replies.carry_out_reply.Goals as goal

@@ -2,8 +2,8 @@ use Rattle.std.proofs.Common.{◌≡◌, ap, subst, sym, true, ◌∙◌, rules}
 use Rattle.std.specs.Prelude.{is_ok}
 use Rattle.git_model.specs.Content.{name_by}
 use Rattle.tenant_tables.specs.Objects.{objects}
-use Rattle.stream_state.specs.OpenCommand.{Nothing}
-use Rattle.stream_state.specs.Tags.{tag_content}
+use Rattle.stream_parts.specs.OpenCommand.{Nothing}
+use Rattle.stream_parts.specs.Tags.{tag_content}
 use Rattle.stream_commands.specs.declared.open_command.OpenCommand.{OpenCommand as LentCommand}
 use Rattle.stream_commands.specs.Held.{HoldsFiles}
 use Rattle.stream_commands.specs.Objects.{object_stored}

@@ -1,6 +1,6 @@
 use Rattle.std.specs.Prelude.{IfOk, IfSome}
 use Rattle.git_model.specs.Repository.{Repository}
-use Rattle.copy_places.specs.Copied.{AreCopied}
+use Rattle.repository_copies.specs.Copied.{AreCopied}
 use Rattle.tenant_service.proofs.PlaceLemmas.{places-are}
 use Rattle.tenant_service.proofs.by_places.places_of.Goals as goal
 

@@ -1,6 +1,6 @@
-use Rattle.std.proofs.Common.{List, ◌-◌, ◌++◌, [], ◌∷◌, ap, ◌∙◌, arith}
-use Rattle.std.specs.Global.{Vec}
-use Rattle.tree_build.proofs.Spots.{Row, on_err, all_same, at_end}
+use Rattle.std.proofs.Common.{List, ◌-◌, ◌++◌, [], ◌∷◌, length, ap, ◌∙◌, arith}
+use Rattle.tree_build.specs.declared.dir.Chunk.{Chunk}
+use Rattle.tree_build.proofs.Spots.{Row, on_err, all_same, at_end, starts_set, starts_last}
 use Rattle.tree_build.proofs.chunks.push.Goals as goal
 
 pub returns-in_err-push-clause-err : goal.returns-in_err-push-clause-err
@@ -9,10 +9,24 @@ returns-in_err-push-clause-err c =
     let n = c.len-last.ensures in
     let l = c.open_last.new.chunks.ok.0 in
     let some = c.in_ok-open_last.ensures.some in
+    let v = c.index_mut.result.now in
+    let w : Chunk = record { start = v.start; entries = c.push.new.self } in
     on_err c.from_residual-in_err-push.result
-    (all_same vs (c.len-last.result - 1) c.index_mut.result.now c.push.new.self (omega arith)
-    (c.in_err-push.ensures.items ∙ ap (λ (v : Vec Row). v.items) c.index_mut.ensures.value)
+    (all_same vs (c.len-last.result - 1) v w (omega arith)
+    (c.in_err-push.ensures.items ∙ ap (λ (u : Chunk). u.entries.items) c.index_mut.ensures.value)
     ∙ c.open_last.ensures.same)
+
+pub returns-in_err-push-clause-starts : goal.returns-in_err-push-clause-starts
+returns-in_err-push-clause-starts c =
+    let vs = c.open_last.new.chunks.items in
+    let n = c.len-last.ensures in
+    let l = c.open_last.new.chunks.ok.0 in
+    let some = c.in_ok-open_last.ensures.some in
+    let v = c.index_mut.result.now in
+    let w : Chunk = record { start = v.start; entries = c.push.new.self } in
+    starts_set vs (c.len-last.result - 1) v w (ap (λ (u : Chunk). u.start) c.index_mut.ensures.value)
+    (ap (λ (l : List Row). length l) c.in_err-push.ensures.items ∙ ap (λ (u : Chunk). length u.entries.items) c.index_mut.ensures.value)
+    c.open_last.ensures.starts
 
 pub returns-clause-ok : goal.returns-clause-ok
 returns-clause-ok c =
@@ -20,6 +34,19 @@ returns-clause-ok c =
     let n = c.len-last.ensures in
     let l = c.open_last.new.chunks.ok.0 in
     let some = c.in_ok-open_last.ensures.some in
-    at_end vs (c.len-last.result - 1) c.index_mut.result.now c.push.new.self c.args.entry (omega arith)
-    (c.in_ok-push.ensures.items ∙ ap (λ (v : Vec Row). v.items ++ c.args.entry ∷ []) c.index_mut.ensures.value)
+    let v = c.index_mut.result.now in
+    let w : Chunk = record { start = v.start; entries = c.push.new.self } in
+    at_end vs (c.len-last.result - 1) v w c.args.entry (omega arith)
+    (c.in_ok-push.ensures.items ∙ ap (λ (u : Chunk). u.entries.items ++ c.args.entry ∷ []) c.index_mut.ensures.value)
     ∙ ap (λ (l : List Row). l ++ c.args.entry ∷ []) c.open_last.ensures.same
+
+pub returns-clause-starts : goal.returns-clause-starts
+returns-clause-starts c =
+    let vs = c.open_last.new.chunks.items in
+    let n = c.len-last.ensures in
+    let l = c.open_last.new.chunks.ok.0 in
+    let some = c.in_ok-open_last.ensures.some in
+    let v = c.index_mut.result.now in
+    let w : Chunk = record { start = v.start; entries = c.push.new.self } in
+    starts_last vs (c.len-last.result - 1) v w (omega arith) (ap (λ (u : Chunk). u.start) c.index_mut.ensures.value)
+    c.open_last.ensures.starts

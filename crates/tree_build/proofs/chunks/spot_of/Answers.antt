@@ -1,21 +1,14 @@
-use Rattle.std.proofs.Common.{◌<◌, length, ap, ◌∙◌, subst, arith}
-use Rattle.tree_build.proofs.Spots.{leads_here, leads_on, leads_to}
+use Rattle.std.proofs.Common.{ℕ, ◌≡◌, ◌+◌, ◌-◌, ◌<◌, suc, sym, subst, arith}
+use Rattle.tree_build.specs.Chunks.{before, IsSpot}
+use Rattle.tree_build.proofs.Spots.{spot_in}
 use Rattle.tree_build.proofs.chunks.spot_of.Goals as goal
 
-pub loop-chunk-init : goal.loop-chunk-init
-loop-chunk-init c = leads_here c.args.chunks.now c.args.place c.requires
-
-pub returns-then-offset-count : goal.returns-then-offset-count
-returns-then-offset-count c =
-    let v = c.index-chunks-chunk.result in
-    let n = v.ok.0 in
-    let count = c.len-count.ensures in
-    let less = c.if-offset-count.true in
-    leads_to c.args.chunks.now c.args.place c.loop-chunk.chunk c.loop-chunk.offset v c.loop-chunk-test.true c.loop-chunk.invariant
-    (subst (λ u. c.loop-chunk.offset < length u.items) c.index-chunks-chunk.is (omega arith))
-
-pub loop-chunk-preserved : goal.loop-chunk-preserved
-loop-chunk-preserved c =
-    let v = c.index-chunks-chunk.result in
-    leads_on c.args.chunks.now c.args.place c.loop-chunk.chunk c.loop-chunk.offset v c.len-count.result c.loop-chunk-test.true c.loop-chunk.invariant
-    (c.len-count.ensures ∙ v.ok.0 ∙ ap (λ u. length u.items) c.index-chunks-chunk.is) c.if-offset-count.false
+pub returns : goal.returns
+returns c =
+    let vs = c.args.chunks.now in
+    let k = c.chunk_of-chunk.result in
+    let one : k + 1 ≡ suc k = omega arith in
+    subst (λ (n : ℕ). IsSpot vs c.args.place k (c.args.place - n))
+    (sym (c.requires.starts k c.index-chunks-chunk.result c.chunk_of-chunk.ensures.chunk))
+    (spot_in vs c.args.place k c.chunk_of-chunk.ensures.chunk c.chunk_of-chunk.ensures.from
+    (subst (λ (n : ℕ). c.args.place < before vs n) one c.chunk_of-chunk.ensures.to))

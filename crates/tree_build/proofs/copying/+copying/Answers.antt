@@ -1,7 +1,5 @@
 use Rattle.std.proofs.Common.{map, ap, ◌∙◌, rules, arith, ℕ, ◌<◌, ◌≤◌, subst}
 use Rattle.std.proofs.lemmas.List.{take_all}
-use Rattle.std.proofs.lemmas.Result.{IfOk-weaker}
-use Rattle.tree_build.specs.Nodes.{shape_of}
 use Rattle.tree_build.proofs.Copies.{copied_row, copied_rows}
 use Rattle.tree_build.proofs.Named.{Rows}
 use Rattle.tree_build.proofs.Places.{size-at}
@@ -16,12 +14,10 @@ copied_entries-copied-requires-in-loop-place t c =
 
 pub copied_entries-returns : goal.copied_entries-returns
 copied_entries-returns t c =
-    IfOk-weaker c.of.result _ _
-    (λ copies is. ap shape_of is ∙ copied_rows c.loop-place.copies.items c.args.entries.now.items
+    copied_rows c.loop-place.copies.items c.args.entries.now.items
     (c.loop-place.invariant
     ∙ ap (λ (xs : Rows). map copied_row xs)
-    (take_all c.loop-place.place c.args.entries.now.items (subst (λ (n : ℕ). n ≤ c.loop-place.place) c.len-place-end.ensures c.loop-place-test.false))))
-    c.of.ensures
+    (take_all c.loop-place.place c.args.entries.now.items (subst (λ (n : ℕ). n ≤ c.loop-place.place) c.len-place-end.ensures c.loop-place-test.false)))
 
 pub copied_dir-returns-in-Some : goal.copied_dir-returns-in-Some
 copied_dir-returns-in-Some t c = search rules

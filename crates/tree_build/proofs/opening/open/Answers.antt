@@ -22,7 +22,7 @@ pub returns : goal.returns
 returns g c =
     opens g.N.Naming.digest_of c.args.pool.now c.args.table.now.entries c.requires.stands c.args.id.now
     (entries_of c.in_ok-entries.entries.items) c.in_ok-entries.ensures
-    (shape_of c.in_ok-of.field-0.items)
-    (ap shape_of c.in_ok-of.ensures ∙ c.in_ok-rows_of.ensures
+    (shape_of c.in_ok-rows_of.field-0.items)
+    (c.in_ok-rows_of.ensures
     ∙ ap (λ (es : List TreeEntry). tree_shape (entries_of es)) c.deref.ensures.value)
     _ refl refl

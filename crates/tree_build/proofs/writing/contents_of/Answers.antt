@@ -17,7 +17,7 @@ append_chunk-requires c =
 
 pub loop-chunk-preserved : goal.loop-chunk-preserved
 loop-chunk-preserved c =
-    let own = entries_of_shape (shape_of c.chunk-item.result.items) in
+    let own = entries_of_shape (shape_of c.chunk-item.result.entries.items) in
     let before = entries_of_shape (shape_of (all (take c.loop-chunk.chunk-index c.args.chunks.now))) in
     let more = chunks-more c.args.chunks.now c.loop-chunk.chunk-index c.chunk-item.result c.loop-chunk-test.true c.chunk-item.is in record {
       written =

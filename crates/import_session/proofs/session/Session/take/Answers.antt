@@ -1,7 +1,7 @@
 use Rattle.std.proofs.Common.{◌≡◌, false, Result, Err, refl, sym, ap, subst, ◌∙◌}
 use Rattle.stream_lex.specs.Looking.{item_of}
 use Rattle.stream_grammar.specs.Commands.{Parsing, done_by, after}
-use Rattle.stream_state.specs.declared.fault.Fault.{Fault}
+use Rattle.stream_parts.specs.declared.fault.Fault.{Fault}
 use Rattle.import_session.specs.Stream.{Step, step, taken}
 use Rattle.import_session.specs.Sound.{IsSound}
 use Rattle.stream_commands.specs.Held.{FilesStand}

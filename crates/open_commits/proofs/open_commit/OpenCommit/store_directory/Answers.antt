@@ -15,12 +15,12 @@ returns-in_ok-store-in-Directory-clause-adds g c =
 pub returns-in_err-store-in-Directory-clause-trees :
     goal.returns-in_err-store-in-Directory-clause-trees
 returns-in_err-store-in-Directory-clause-trees g c =
-    leaves-stored c.store.result _ _ _ _ _ _ _ c.store.ensures.stores
+    rw c.in-Directory.is (leaves-stored c.store.result _ _ _ _ _ _ _ c.store.ensures.stores)
 
 pub returns-in_ok-store-in-Directory-clause-trees :
     goal.returns-in_ok-store-in-Directory-clause-trees
 returns-in_ok-store-in-Directory-clause-trees g c =
-    leaves-stored c.store.result _ _ _ _ _ _ _ c.store.ensures.stores
+    rw c.in-Directory.is (leaves-stored c.store.result _ _ _ _ _ _ _ c.store.ensures.stores)
 
 pub returns-in_default-clause-trees : goal.returns-in_default-clause-trees
 returns-in_default-clause-trees g c = leaves-none _ _ _

@@ -1,58 +1,15 @@
-use Rattle.std.proofs.Common.{◌≡◌, ℕ, ◌-◌, List, Result, Some, Err, slice_get, ap, sym, subst, ◌∙◌, arith}
-use Rattle.std.proofs.lemmas.Option.{slice_get_read, slice_get_within}
-use Rattle.std.proofs.lemmas.Result.{err_from_is_err_and}
-use Rattle.tenant_tables.proofs.SummaryLemmas.{slice_get-append}
-use Rattle.revisions.specs.declared.fault.Fault.{Fault}
-use Rattle.revisions.specs.Faults.{Gives}
-use Rattle.revisions.specs.Resolution.{nth_ancestor}
-use Rattle.revisions.proofs.Ancestors.{chain-at, chain-more, chain-refused}
+use Rattle.std.proofs.Common.{sym, subst}
+use Rattle.revisions.specs.FirstParents.{IsFirstParentChain}
 use Rattle.revisions.proofs.first_parents.FirstParentCache.ancestor.Goals as goal
 
-pub returns-in_err-begin_at-clause-chain : goal.returns-in_err-begin_at-clause-chain
-returns-in_err-begin_at-clause-chain g c good is = c.begin_at.ensures.chain c.args.objects.now is
-
-pub way-init : goal.way-init
-way-init g c = rw c.self.view_is (record {
-  begun = c.in_ok-begin_at.ensures.begun;
-  chain = λ good is. c.begin_at.ensures.chain c.args.objects.now is;
-})
-
-pub returns-in_err-parent-clause-found : goal.returns-in_err-parent-clause-found
-returns-in_err-parent-clause-found g c good is =
-    let p = err_from_is_err_and c.from_residual-in_err-parent.result c.from_residual-in_err-parent.ensures.1 in
+pub returns-in_err-keep-clause-chain : goal.returns-in_err-keep-clause-chain
+returns-in_err-keep-clause-chain g c good is =
     let os = c.args.objects.now in
-    let commits = c.way.self-inside.commits.items in
-    let some = slice_get_within commits 0 c.args.commit c.way.invariant.begun in
-    let many = c.len-in-way.ensures ∙ c.way.self-inside.commits.ok.0 in
-    let last = slice_get_read commits c.len-in-way.result (c.len-in-way.result - 1) c.index-last.result.now many
-    (omega (arith, some, many)) c.index-last.ensures in
-    let before = c.way-test.true in
-    let first = c.len.ensures ∙ c.way.self-inside.commits.ok.0 in
-    subst (λ (r : Result (List ℕ) Fault). Gives r (nth_ancestor os c.args.n c.args.commit)) (sym (p.1 ∙ ap Err p.2))
-    (λ no. chain-refused os commits c.args.commit c.index-last.result.now c.args.n _ (c.way.invariant.chain good is)
-    c.way.invariant.begun (subst (λ (k : ℕ). slice_get commits (k - 1) ≡ Some c.index-last.result.now) many last)
-    (c.in_err-parent.ensures good no) (omega (arith, before, first)))
+    c.keep.ensures os (c.found-found.ensures.chain good is)
+    (c.walk_to-met.ensures.chain good (subst (IsFirstParentChain os) (sym c.new-way.ensures) tt))
 
-pub way-preserved : goal.way-preserved
-way-preserved g c =
-    let commits = c.way.self-inside.commits.items in
-    let some = slice_get_within commits 0 c.args.commit c.way.invariant.begun in
-    let many = c.len-in-way.ensures ∙ c.way.self-inside.commits.ok.0 in
-    let last = slice_get_read commits c.len-in-way.result (c.len-in-way.result - 1) c.index-last.result.now many
-    (omega (arith, some, many)) c.index-last.ensures in
-    rw c.in_ok-push.ensures.items
-    (record {
-      begun = slice_get-append commits _ 0 some ∙ c.way.invariant.begun;
-      chain = λ good is.
-          chain-more c.args.objects.now commits c.index-last.result.now c.in_ok-parent.parent (c.way.invariant.chain good is)
-          (subst (λ (k : ℕ). slice_get commits (k - 1) ≡ Some c.index-last.result.now) many last) (c.in_ok-parent.ensures good);
-    })
-
-pub returns-clause-found : goal.returns-clause-found
-returns-clause-found g c good is =
-    let commits = c.way.self-inside.commits.items in
-    let many = c.len.ensures ∙ c.way.self-inside.commits.ok.0 in
-    let past = c.way-test.false in
-    chain-at c.args.objects.now commits c.args.commit c.index.result.now c.args.n (c.way.invariant.chain good is)
-    c.way.invariant.begun
-    (slice_get_read commits c.len.result c.args.n c.index.result.now many (omega (arith, many, past)) c.index.ensures)
+pub returns-clause-chain : goal.returns-clause-chain
+returns-clause-chain g c good is =
+    let os = c.args.objects.now in
+    c.keep.ensures os (c.found-found.ensures.chain good is)
+    (c.walk_to-met.ensures.chain good (subst (IsFirstParentChain os) (sym c.new-way.ensures) tt))

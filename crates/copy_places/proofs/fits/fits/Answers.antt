@@ -1,8 +1,0 @@
-use Rattle.std.proofs.Common.{refl, arith}
-use Rattle.copy_places.proofs.Short.{short-fits}
-use Rattle.copy_places.proofs.fits.fits.Goals as goal
-
-pub returns-then-contents-le-LONGEST_LINE : goal.returns-then-contents-le-LONGEST_LINE
-returns-then-contents-le-LONGEST_LINE c os valid =
-    let short = c.if-contents-le-LONGEST_LINE.true in
-    (λ yes. short-fits os c.args.kind c.args.contents.now valid (omega (arith, short)), λ fits. refl)

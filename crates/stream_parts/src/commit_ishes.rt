@@ -1,0 +1,86 @@
+//! What an expression names, and what it is peeled to: git-fast-import(1), "from".
+
+ghost use Rattle.std.specs.Prelude.{◌≡◌};
+ghost use Rattle.git_model.specs.GoodRepository.{AreObjects};
+ghost use Rattle.tenant_tables.specs.Objects.{objects};
+ghost use Rattle.tenant_tables.specs.IsBackedBy.{IsBackedBy};
+ghost use Rattle.revisions.specs.Resolution.{peeled, resolved};
+ghost use Rattle.stream_parts.specs.declared.fault.Fault.TheVariants as fault;
+ghost use Rattle.stream_parts.specs.Faults.{or_fault, resolved_or, resolving_fault, Gives};
+ghost use Rattle.stream_parts.specs.Branches.{commit_at};
+
+use crate::branches::Tip;
+use crate::fault::Fault;
+use content_pool::Pool;
+use git_objects::{Kind, Name, Naming};
+use revisions::{peel, resolve};
+use std::alloc::Global;
+use tenant_refs::Refs;
+use tenant_tables::{Objects, Sight, Table};
+
+fn fault_of(fault: revisions::Fault) -> Fault
+    ensures { result ≡ resolving_fault fault }
+{
+    match fault {
+        revisions::Fault::Malformed => Fault::Malformed,
+        revisions::Fault::WrongKind => Fault::WrongKind,
+        revisions::Fault::UnknownRevision => Fault::UnknownRevision,
+        revisions::Fault::Ambiguous => Fault::Ambiguous,
+        revisions::Fault::Memory => Fault::Memory,
+    }
+}
+
+fn passed_on(given: Result<Name, revisions::Fault>) -> Result<Name, Fault>
+    ensures { result ≡ resolved_or given }
+{
+    match given {
+        Ok(id) => Ok(id),
+        Err(fault) => Err(fault_of(fault)),
+    }
+}
+
+/// Peels an object to one of this kind, among all objects so far: gitrevisions(7),
+/// "<rev>^{<type>}".
+///
+/// `Fault::WrongKind` (15) if it is peeled to none; `Fault::Memory` (90) if there is no memory to
+/// read a commit or a tag.
+pub fn peel_to<N: Naming>(
+    alloc: Global,
+    pool: &Pool<N>,
+    table: &Table,
+    wanted: Kind,
+    id: Name,
+) -> Result<Name, Fault>
+    requires { IsBackedBy N.digest_of pool.now table.now.entries }
+    ensures { let os = objects pool.now table.now.entries in AreObjects N.digest_of os
+        → Gives result (resolved_or (peeled os wanted id)) }
+{
+    let objects = Objects::of(pool, table, Sight::All);
+    passed_on(peel(alloc, &objects, wanted, id))
+}
+
+/// What an expression names among all objects so far and the refs as last saved:
+/// gitrevisions(7). Each fault of `revisions` is passed on under the stream's number.
+pub fn resolve_words<N: Naming>(
+    alloc: Global,
+    pool: &Pool<N>,
+    table: &Table,
+    refs: &Refs,
+    words: &[u8],
+) -> Result<Name, Fault>
+    requires { IsBackedBy N.digest_of pool.now table.now.entries }
+    ensures { let os = objects pool.now table.now.entries in AreObjects N.digest_of os
+        → Gives result (resolved_or (resolved os refs.now words.now)) }
+{
+    passed_on(resolve(alloc, pool, table, Sight::All, refs, words))
+}
+
+/// The commit that a branch is at.
+pub fn commit_at(tip: Tip) -> Result<Name, Fault>
+    ensures { result ≡ or_fault fault.UnknownRevision (commit_at tip) }
+{
+    match tip {
+        Tip::At(id) => Ok(id),
+        Tip::Unborn | Tip::Deleted => Err(Fault::UnknownRevision),
+    }
+}

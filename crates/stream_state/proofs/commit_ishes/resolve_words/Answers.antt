@@ -1,5 +1,0 @@
-use Rattle.std.proofs.Common.{rules}
-use Rattle.stream_state.proofs.commit_ishes.resolve_words.Goals as goal
-
-pub returns : goal.returns
-returns g c = search rules

@@ -1,5 +1,0 @@
-use Rattle.std.proofs.Common.{rules}
-use Rattle.stream_state.proofs.fault.Fault.code.Goals as goal
-
-pub returns-in-WrongKind : goal.returns-in-WrongKind
-returns-in-WrongKind c = search rules

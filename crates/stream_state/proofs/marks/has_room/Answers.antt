@@ -1,7 +1,0 @@
-use Rattle.std.proofs.Common.{rules}
-use Rattle.stream_state.specs.Marks.{has_room}
-use Rattle.stream_state.proofs.marks.has_room.Goals as goal
-
-pub returns-else-contains : goal.returns-else-contains
-unfolding has_room
-returns-else-contains c = search rules

@@ -1,5 +1,0 @@
-use Rattle.std.proofs.Common.{rules}
-use Rattle.stream_state.proofs.target.Target.copy_of.Goals as goal
-
-pub returns : goal.returns
-returns c = search rules
