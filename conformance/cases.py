@@ -149,12 +149,20 @@ def from_json(told: Dict[str, Any], stream: bytes, first: Optional[bytes] = None
     if [told["stream"], told["first"]] != expected:
         raise BadCase("a stream is not the one that the case names")
     return Case(
-        name=name, first=first, stream=stream, level=told["level"], extension=told["extension"], variant_of=told["variant_of"],
-        fault=Fault(**told["fault"]) if told["fault"] else None, replies=bytes_of(told["replies"]),
-        kept=[bytes_of(ref) for ref in told["kept"]], state=_state_from_json(told),
+        name=name,
+        first=first,
+        stream=stream,
+        level=told["level"],
+        extension=told["extension"],
+        variant_of=told["variant_of"],
+        fault=Fault(**told["fault"]) if told["fault"] else None,
+        replies=bytes_of(told["replies"]),
+        kept=[bytes_of(ref) for ref in told["kept"]],
+        state=_state_from_json(told),
         objects=[(str(name), str(kind), int(size)) for name, kind, size in told["objects"]],
         checkpoints=[(int(it["byte"]), _state_from_json(it)) for it in told["checkpoints"]],
-        rules=[Rule(**rule) for rule in told["rules"]], git=dict(told["git"]),
+        rules=[Rule(**rule) for rule in told["rules"]],
+        git=dict(told["git"]),
     )
 
 

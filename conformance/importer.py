@@ -155,8 +155,15 @@ def run(words: List[str], given: IO[bytes], limits: Limits) -> Ran:
     # An adapter that begins with `env python3` gets this Python.
     path = os.path.dirname(sys.executable) + os.pathsep + os.environ.get("PATH", os.defpath)
     try:
-        process = subprocess.Popen(words, stdin=given, stdout=subprocess.PIPE, stderr=subprocess.PIPE, start_new_session=True,
-                                   preexec_fn=lambda: _limit(limits), env={**os.environ, "PATH": path})
+        process = subprocess.Popen(
+            words,
+            stdin=given,
+            stdout=subprocess.PIPE,
+            stderr=subprocess.PIPE,
+            start_new_session=True,
+            preexec_fn=lambda: _limit(limits),
+            env={**os.environ, "PATH": path},
+        )
     except (OSError, subprocess.SubprocessError) as error:
         raise Trouble(f"cannot be run: {error}") from None
     output = _Output(process, limits)

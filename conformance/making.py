@@ -83,10 +83,19 @@ class Maker:
         state = self._state(tenant)
         ends = [it for it in checkpoints_in(worked.stream) if fault is None or it < fault.byte]
         return Case(
-            name=worked.name, first=worked.first, stream=worked.stream, level=level_of(worked.stream, rules),
-            extension=extension_in(worked.stream), variant_of=variant_of, fault=fault, replies=replies,
-            kept=list(dict.fromkeys(read_kept(replies))), state=state, objects=self._objects(tenant, state),
-            checkpoints=[(it, self._state_after(worked.stream[:it])) for it in ends], rules=[it.rule for it in rules],
+            name=worked.name,
+            first=worked.first,
+            stream=worked.stream,
+            level=level_of(worked.stream, rules),
+            extension=extension_in(worked.stream),
+            variant_of=variant_of,
+            fault=fault,
+            replies=replies,
+            kept=list(dict.fromkeys(read_kept(replies))),
+            state=state,
+            objects=self._objects(tenant, state),
+            checkpoints=[(it, self._state_after(worked.stream[:it])) for it in ends],
+            rules=[it.rule for it in rules],
         )
 
     def _open(self) -> bytes:

@@ -16,18 +16,17 @@ from typing import Callable, Dict, List
 
 HERE = os.path.dirname(os.path.realpath(__file__))
 CLIENTS = os.path.join(HERE, "..", "..", "clients")
-sys.path.insert(0, CLIENTS)
+sys.path[:0] = [CLIENTS, os.path.join(HERE, "..")]
 
 from gitpool import Service  # noqa: E402
 from gitpool_many import EXPORT  # noqa: E402
+from words import program_and_numbers  # noqa: E402
 
 ROUNDS = 3
 
 
 def main() -> None:
-    program = os.path.abspath(sys.argv[1])
-    count = int(sys.argv[2]) if len(sys.argv) > 2 else 30
-    commits = int(sys.argv[3]) if len(sys.argv) > 3 else 1000
+    program, (count, commits) = program_and_numbers(__doc__, 30, 1000)
     folder = tempfile.mkdtemp()
     try:
         measure(program, folder, make(folder, count, commits))
@@ -41,9 +40,10 @@ def make(folder: str, count: int, commits: int) -> List[str]:
     for number in range(count):
         path = os.path.join(folder, f"{number}.git")
         subprocess.run(["git", "init", "-q", "--bare", "--initial-branch=b0", path], check=True)
-        made = subprocess.Popen([os.path.join(HERE, "..", "history", "make_history"), "--commits", str(commits), "--files", "500", "--seed",
-                                 str(number)],
-                                stdout=subprocess.PIPE)
+        made = subprocess.Popen(
+            [os.path.join(HERE, "..", "history", "make_history"), "--commits", str(commits), "--files", "500", "--seed", str(number)],
+            stdout=subprocess.PIPE,
+        )
         subprocess.run(["git", "-C", path, "fast-import", "--quiet"], stdin=made.stdout, check=True)
         paths.append(path)
     return paths
@@ -56,8 +56,10 @@ def measure(program: str, folder: str, paths: List[str]) -> None:
         file.writelines(f"t{number} {path}\n" for number, path in enumerate(paths))
     best: Dict[str, float] = {}
     runs: Dict[str, Callable[[], None]] = {
-        "one by one": lambda: each_alone(program, folder, paths), "all in one": lambda: all_in_one(program, folder, pool),
-        "a load and a save": lambda: load_and_save(program, pool)}
+        "one by one": lambda: each_alone(program, folder, paths),
+        "all in one": lambda: all_in_one(program, folder, pool),
+        "a load and a save": lambda: load_and_save(program, pool),
+    }
     for _ in range(ROUNDS):
         for name, run in runs.items():
             began = time.monotonic()
@@ -65,8 +67,10 @@ def measure(program: str, folder: str, paths: List[str]) -> None:
             best[name] = min(best.get(name, 1e9), time.monotonic() - began)
     check(program, pool, paths)
     alone, together, saved = best["one by one"], best["all in one"], best["a load and a save"]
-    print(f"{len(paths)} repositories, a pool file of {os.path.getsize(pool) / 1e6:.0f} MB: one by one {alone:.2f} s,"
-          f" --all {together:.2f} s, of which a load and a save {saved:.2f} s: {(together - saved) / alone:.2f} times their own imports beside these")
+    print(
+        f"{len(paths)} repositories, a pool file of {os.path.getsize(pool) / 1e6:.0f} MB: one by one {alone:.2f} s,"
+        f" --all {together:.2f} s, of which a load and a save {saved:.2f} s: {(together - saved) / alone:.2f} times their own imports beside these"
+    )
 
 
 def each_alone(program: str, folder: str, paths: List[str]) -> None:
@@ -84,9 +88,12 @@ def all_in_one(program: str, folder: str, pool: str) -> None:
     """The same by one run, into a pool file that is not there yet."""
     if os.path.exists(pool):
         os.unlink(pool)
-    subprocess.run([os.path.join(CLIENTS, "gitpool-import"), "--all", os.path.join(folder, "list"), "--pool", pool],
-                   env=dict(os.environ, GITPOOL=program),
-                   stdout=subprocess.DEVNULL, check=True)
+    subprocess.run(
+        [os.path.join(CLIENTS, "gitpool-import"), "--all", os.path.join(folder, "list"), "--pool", pool],
+        env=dict(os.environ, GITPOOL=program),
+        stdout=subprocess.DEVNULL,
+        check=True,
+    )
 
 
 def load_and_save(program: str, pool: str) -> None:

@@ -12,10 +12,13 @@ import tempfile
 import time
 from typing import Dict, List, Optional, Tuple
 
-program = os.path.abspath(sys.argv[1])
-rounds = int(sys.argv[2]) if len(sys.argv) > 2 else 3
-commits = sys.argv[3] if len(sys.argv) > 3 else "5000"
 here = os.path.dirname(os.path.abspath(__file__))
+sys.path.insert(0, os.path.join(here, ".."))
+sys.dont_write_bytecode = True
+
+from words import program_and_numbers  # noqa: E402
+
+program, (rounds, commits) = program_and_numbers(__doc__, 3, 5000)
 GIT = ["git", "-c", "core.compression=0", "-c", "pack.compression=0"]
 
 
@@ -58,7 +61,7 @@ def fresh(folder: str, name: str, stream: bytes) -> Tuple[bytes, float]:
 
 
 def main() -> None:
-    stream = ran([os.path.join(here, "..", "history", "make_history"), "--commits", commits])[0]
+    stream = ran([os.path.join(here, "..", "history", "make_history"), "--commits", str(commits)])[0]
     with tempfile.TemporaryDirectory() as folder:
         pool = Pool(folder, stream)
         export = pool.told(["a", "export"], pool.first)[0]
@@ -81,11 +84,13 @@ def main() -> None:
         assert left["copy"] == left["import"], "the copy leaves another repository than the import"
         alone = best.pop("load and save")
         own = best["copy"] - alone, best["import"] - alone
-        print(f"{commits} commits, an export of {len(export) / 1e6:.1f} MB, a pool file of {os.path.getsize(pool.path) / 1e6:.1f} MB with both; "
-              f"load and save {alone:.2f} s; import {best['import']:.2f} s, without a pool file {best['no pool file']:.2f} s;"
-              f" copy {best['copy']:.2f} s,"
-              f" {best['copy'] / best['import']:.2f} of the import, {own[0] / own[1]:.2f} without load and save;"
-              f" git fast-import of the export {best['git']:.2f} s; load {os.getloadavg()[0]:.1f}")
+        print(
+            f"{commits} commits, an export of {len(export) / 1e6:.1f} MB, a pool file of {os.path.getsize(pool.path) / 1e6:.1f} MB with both; "
+            f"load and save {alone:.2f} s; import {best['import']:.2f} s, without a pool file {best['no pool file']:.2f} s;"
+            f" copy {best['copy']:.2f} s,"
+            f" {best['copy'] / best['import']:.2f} of the import, {own[0] / own[1]:.2f} without load and save;"
+            f" git fast-import of the export {best['git']:.2f} s; load {os.getloadavg()[0]:.1f}"
+        )
 
 
 main()

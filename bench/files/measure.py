@@ -6,33 +6,34 @@ import subprocess
 import sys
 import tempfile
 import time
+from typing import Iterable, Iterator, List, Tuple
 
 program, count, rounds = sys.argv[1], int(sys.argv[2]), int(sys.argv[3])
 folder = tempfile.mkdtemp()
 
 
-def line(number, path):
+def line(number: int, path: int) -> str:
     return "100644 blob %040x\td%02d/s%02d/f%02d\n" % (number, path // 2500, path // 50 % 50, path % 50)
 
 
 WIDE, EDITS = 2000, 1000
 
 
-def wide(number, file):
+def wide(number: int, file: int) -> str:
     return "100644 blob %040x\twide/f%04d\n" % (number, file)
 
 
-def wide_edit(number):
+def wide_edit(number: int) -> str:
     return wide(WIDE + number + 1, number * 7 % WIDE)
 
 
-def write(name, *parts):
+def write(name: str, *parts: Iterable[str]) -> None:
     with open(os.path.join(folder, name), "w") as it:
         for part in parts:
             it.writelines(part)
 
 
-def every():
+def every() -> Iterator[str]:
     return (line(number + 1, number) for number in range(count))
 
 
@@ -47,17 +48,18 @@ for number in range(EDITS):
     write("wide_%d" % number, [wide_edit(number)])
 
 
-def once(words, source):
+def once(words: List[str], source: str) -> Tuple[float, float, str]:
     start = time.monotonic()
     with open(os.path.join(folder, source)) as it:
         child = subprocess.Popen(words, stdin=it, stdout=subprocess.PIPE, cwd=folder)
+    assert child.stdout
     said = child.stdout.read().decode()
     _, status, usage = os.wait4(child.pid, 0)
     assert status == 0, (words, status)
     return time.monotonic() - start, usage.ru_maxrss / 1024, said
 
 
-def by_program():
+def by_program() -> List[str]:
     _, memory, said = once([program], "both")
     print("the program: most memory %.0f MB" % memory)
     names = []
@@ -68,7 +70,7 @@ def by_program():
     return names
 
 
-def by_git():
+def by_git() -> List[str]:
     subprocess.run(["rm", "-rf", os.path.join(folder, ".git")], check=True)
     subprocess.run(["git", "init", "-q", folder], check=True)
     names = []
@@ -81,7 +83,7 @@ def by_git():
     return names
 
 
-def wide_by_program():
+def wide_by_program() -> str:
     _, memory, said = once([program], "wide_edits")
     rows = [row.split() for row in said.splitlines()][1 : EDITS + 1]
     puts, stores = (sum(int(row[at]) for row in rows) / 1e6 for at in (0, 1))
@@ -90,11 +92,11 @@ def wide_by_program():
     return rows[-1][2]
 
 
-def wide_by_git():
+def wide_by_git() -> str:
     subprocess.run(["rm", "-rf", os.path.join(folder, ".git")], check=True)
     subprocess.run(["git", "init", "-q", folder], check=True)
     once(["git", "update-index", "--index-info"], "wide")
-    puts = stores = 0
+    puts = stores = 0.0
     for number in range(EDITS):
         puts += once(["git", "update-index", "--index-info"], "wide_%d" % number)[0]
         took, _, said = once(["git", "write-tree", "--missing-ok"], "wide")
@@ -106,11 +108,11 @@ def wide_by_git():
 MOVED, MOVES = 10000, 1000
 
 
-def at(folder, number):
+def at(folder: str, number: int) -> str:
     return "100644 blob %040x\t%s/f%04d\n" % (number + 1, folder, number)
 
 
-def moves(one, other):
+def moves(one: str, other: str) -> None:
     """A directory is edited, and then renamed to and fro; the trees are stored before and after."""
     files = [at(one, number) for number in range(MOVED)]
     again = at(one, MOVED).replace("f10000", "f0000")
@@ -120,7 +122,7 @@ def moves(one, other):
     write("moved_away", ["0 %040x\t%s/f%04d\n" % (0, one, number) for number in range(MOVED)])
 
 
-def renames_by_program(one, other):
+def renames_by_program(one: str, other: str) -> str:
     moves(one, other)
     _, _, said = once([program], "moves")
     took, store, name = said.splitlines()[1].split()
@@ -129,7 +131,7 @@ def renames_by_program(one, other):
     return name
 
 
-def renames_by_git(one, other):
+def renames_by_git(one: str, other: str) -> str:
     subprocess.run(["rm", "-rf", os.path.join(folder, ".git")], check=True)
     subprocess.run(["git", "init", "-q", folder], check=True)
     once(["git", "update-index", "--index-info"], "moves_before")

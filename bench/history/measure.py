@@ -9,10 +9,14 @@ import tempfile
 import time
 from typing import List, Tuple
 
-program = os.path.abspath(sys.argv[1])
-rounds = int(sys.argv[2]) if len(sys.argv) > 2 else 3
-commits = sys.argv[3] if len(sys.argv) > 3 else "5000"
 here = os.path.dirname(os.path.abspath(__file__))
+sys.path.insert(0, os.path.join(here, ".."))
+sys.dont_write_bytecode = True
+
+from words import program_and_numbers  # noqa: E402
+
+program, (rounds, number) = program_and_numbers(__doc__, 3, 5000)
+commits = str(number)
 folder = tempfile.mkdtemp()
 GIT = ["git", "-c", "core.compression=0", "-c", "pack.compression=0", "fast-import", "--quiet"]
 EXPORT = ["git", "-C", here, "fast-export", "--all", "--signed-tags=strip"]
@@ -59,9 +63,12 @@ def measure(name: str, words: List[str]) -> None:
     ours, git = zip(*([once(it, stream, it is GIT) for it in ([program], GIT)] for _ in range(rounds)))
     assert ours[0][2] == git[0][2], "other names of commits"
     took, other = min(it[0] for it in ours), min(it[0] for it in git)
-    print(f"{name}: {count} commits, {size:.1f} MB; gitpool {took:.2f} s, {took / count * 1e6:.0f} us a commit,"
-          f" at most {max(it[1] for it in ours):.0f} MB; git {other:.2f} s, at most {max(it[1] for it in git):.0f} MB;"
-          f" {other / took:.1f} times as fast", flush=True)
+    print(
+        f"{name}: {count} commits, {size:.1f} MB; gitpool {took:.2f} s, {took / count * 1e6:.0f} us a commit,"
+        f" at most {max(it[1] for it in ours):.0f} MB; git {other:.2f} s, at most {max(it[1] for it in git):.0f} MB;"
+        f" {other / took:.1f} times as fast",
+        flush=True,
+    )
 
 
 for name, words in HISTORIES.items():

@@ -8,19 +8,23 @@ from typing import Any, Callable, List
 
 def asks(service: Any) -> Callable[[List[bytes]], int]:
     """By a service: the question `cat`, and its reply."""
+
     def read_all(names: List[bytes]) -> int:
         ask = service.ask
         return sum(len(ask(b"t", b"cat " + name)) for name in names)
+
     return read_all
 
 
 def by_library(place: str) -> Callable[[List[bytes]], int]:
     from gitpool_library import Service
+
     return asks(Service(place, read_only=True))
 
 
 def by_pipe(place: str) -> Callable[[List[bytes]], int]:
     from gitpool import Service
+
     return asks(Service(place, read_only=True))
 
 
@@ -30,6 +34,7 @@ def by_pygit2(place: str) -> Callable[[List[bytes]], int]:
     def read_all(names: List[bytes]) -> int:
         odb = pygit2.Repository(place).odb
         return sum(len(odb.read(name.decode())[1]) for name in names)
+
     return read_all
 
 
@@ -39,6 +44,7 @@ def by_dulwich(place: str) -> Callable[[List[bytes]], int]:
     def read_all(names: List[bytes]) -> int:
         store = repo.Repo(place).object_store
         return sum(len(store.get_raw(name)[1]) for name in names)
+
     return read_all
 
 

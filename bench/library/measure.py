@@ -32,8 +32,15 @@ class Bench:
 
     def environment(self) -> Dict[str, str]:
         python = os.pathsep.join(os.path.abspath(os.path.join(TOP, it)) for it in ("clients", "bindings/python"))
-        return {**os.environ, "PYTHONPATH": python, "GITPOOL": self.program, "GITPOOL_LIB_DIR": self.archive, "CARGO_HOME": self.path("cargo"),
-                "CARGO_TARGET_DIR": self.path("target"), "GITPOOL_LIBRARY": os.path.join(self.archive, "libgitpool.so")}
+        return {
+            **os.environ,
+            "PYTHONPATH": python,
+            "GITPOOL": self.program,
+            "GITPOOL_LIB_DIR": self.archive,
+            "CARGO_HOME": self.path("cargo"),
+            "CARGO_TARGET_DIR": self.path("target"),
+            "GITPOOL_LIBRARY": os.path.join(self.archive, "libgitpool.so"),
+        }
 
     def told(self, words: List[str], given: Optional[str] = None) -> bytes:
         """What a command prints that has to end well."""
@@ -80,13 +87,17 @@ class Bench:
         script = os.path.join(HERE, "cat.py")
         pool, packed, plain = self.path("pool"), self.path("packed"), self.path("plain")
         return [
-            ("library, C", [self.path("cat"), pool]), ("library, Rust", [self.path("target/release/cat"), pool]),
-            ("library, Python", [PYTHON, script, "library", pool]), ("gitpool.py: a pipe to the program", [PYTHON, script, "pipe", pool]),
+            ("library, C", [self.path("cat"), pool]),
+            ("library, Rust", [self.path("target/release/cat"), pool]),
+            ("library, Python", [PYTHON, script, "library", pool]),
+            ("gitpool.py: a pipe to the program", [PYTHON, script, "pipe", pool]),
             ("libgit2, its pack", [self.path("cat_libgit2"), packed, "strict"]),
             ("libgit2, compression 0 and no deltas", [self.path("cat_libgit2"), plain, "strict"]),
             ("the same without its check of names", [self.path("cat_libgit2"), plain, "loose"]),
-            ("pygit2, its pack", [PYTHON, script, "pygit2", packed]), ("pygit2, compression 0 and no deltas", [PYTHON, script, "pygit2", plain]),
-            ("dulwich, its pack", [PYTHON, script, "dulwich", packed]), ("dulwich, compression 0 and no deltas", [PYTHON, script, "dulwich", plain]),
+            ("pygit2, its pack", [PYTHON, script, "pygit2", packed]),
+            ("pygit2, compression 0 and no deltas", [PYTHON, script, "pygit2", plain]),
+            ("dulwich, its pack", [PYTHON, script, "dulwich", packed]),
+            ("dulwich, compression 0 and no deltas", [PYTHON, script, "dulwich", plain]),
         ]
 
     def read_by(self, words: List[str]) -> Optional[Tuple[float, float, int]]:

@@ -15,10 +15,11 @@ from typing import Callable, Dict, List, Sequence, Tuple
 
 HERE = os.path.dirname(os.path.realpath(__file__))
 CLIENTS = os.path.join(HERE, "..", "..", "clients")
-sys.path[:0] = [HERE, CLIENTS]
+sys.path[:0] = [HERE, CLIENTS, os.path.join(HERE, "..")]
 sys.dont_write_bytecode = True
 
 from host import Host, Listing  # noqa: E402
+from words import program_and_numbers  # noqa: E402
 
 # (a stream has no longer data)
 BLOB = 67_108_864
@@ -66,8 +67,14 @@ class Bench:
         self.pool, self.large = self.path("all.pool"), self.path("large.pool")
         self.table = Table()
         settings = {"user.name": "A", "user.email": "a@b", "gc.auto": "0", "advice.detachedHead": "false"}
-        self._environment = dict(os.environ, HOME=self.folder, GIT_CONFIG_NOSYSTEM="1", GITPOOL=program,
-                                 PATH=CLIENTS + os.pathsep + os.environ["PATH"], GIT_CONFIG_COUNT=str(len(settings)))
+        self._environment = dict(
+            os.environ,
+            HOME=self.folder,
+            GIT_CONFIG_NOSYSTEM="1",
+            GITPOOL=program,
+            PATH=CLIENTS + os.pathsep + os.environ["PATH"],
+            GIT_CONFIG_COUNT=str(len(settings)),
+        )
         for place, (key, value) in enumerate(settings.items()):
             self._environment.update({f"GIT_CONFIG_KEY_{place}": key, f"GIT_CONFIG_VALUE_{place}": value})
 
@@ -143,9 +150,11 @@ class Bench:
         host.take_all(host.entry_frames(b"site", listing))
         entries = host.peak() - before
         reply, bits = 29 * len(listing) / 1e6, 2 * len(listing) / 8e6
-        return [f"memory of the host with the pool: {loaded / 1e6:.1f} MB",
-                f"a Missing of all: {missing / 1e6:.2f} MB more; its reply has {reply:.2f} MB, and two bits an object are {bits:.2f} MB",
-                f"all Entries after it: {entries / 1e6:.2f} MB more"]
+        return [
+            f"memory of the host with the pool: {loaded / 1e6:.1f} MB",
+            f"a Missing of all: {missing / 1e6:.2f} MB more; its reply has {reply:.2f} MB, and two bits an object are {bits:.2f} MB",
+            f"all Entries after it: {entries / 1e6:.2f} MB more",
+        ]
 
     def blobs(self) -> None:
         """A large blob: its entry alone, with a digest on the way, and sha1sum of a file of the same bytes."""
@@ -177,8 +186,11 @@ class Bench:
     def clones(self) -> None:
         """Clones by the helper, with its load, and over file://."""
         url = f"gitpool::{self.pool}#site"
-        sources = {"gitpool::, with its load": url, "file://, as fast-import left it": "file://" + self.path("left.git"),
-                   "file://, with a bitmap": "file://" + self.path("packed.git")}
+        sources = {
+            "gitpool::, with its load": url,
+            "file://, as fast-import left it": "file://" + self.path("left.git"),
+            "file://, with a bitmap": "file://" + self.path("packed.git"),
+        }
         tips = set()
         for _ in range(self.rounds):
             for words in KINDS:
@@ -191,8 +203,8 @@ class Bench:
 
 
 def main() -> None:
-    rounds = int(sys.argv[2]) if len(sys.argv) > 2 else 3
-    bench = Bench(os.path.abspath(sys.argv[1]), rounds, int(sys.argv[3]) if len(sys.argv) > 3 else 20_000)
+    program, (rounds, commits) = program_and_numbers(__doc__, 3, 20_000)
+    bench = Bench(program, rounds, commits)
     try:
         bench.prepare()
         bench.whole_packs()

@@ -12,12 +12,15 @@ import subprocess
 import sys
 import tempfile
 import time
+from typing import List, Tuple
 
-program = os.path.abspath(sys.argv[1])
-rounds = int(sys.argv[2]) if len(sys.argv) > 2 else 3
-tenants = int(sys.argv[3]) if len(sys.argv) > 3 else 1000
-commits = sys.argv[4] if len(sys.argv) > 4 else "5000"
 here = os.path.dirname(os.path.abspath(__file__))
+sys.path.insert(0, os.path.join(here, ".."))
+sys.dont_write_bytecode = True
+
+from words import program_and_numbers  # noqa: E402
+
+program, (rounds, tenants, commits) = program_and_numbers(__doc__, 3, 1000, 5000)
 HEAD = struct.Struct(">8sI")
 ONE = b"t"
 
@@ -25,25 +28,25 @@ ONE = b"t"
 class Text:
     """Bytes that are read from the front."""
 
-    def __init__(self, bytes_):
+    def __init__(self, bytes_: memoryview) -> None:
         self.bytes, self.place = bytes_, 0
 
-    def take(self, size):
+    def take(self, size: int) -> memoryview:
         self.place += size
         return self.bytes[self.place - size : self.place]
 
-    def number(self, size=8):
+    def number(self, size: int = 8) -> int:
         return int.from_bytes(self.take(size), "big")
 
-    def sized(self):
+    def sized(self) -> memoryview:
         return self.take(self.number(2))
 
 
-def sized(bytes_):
+def sized(bytes_: bytes) -> bytes:
     return len(bytes_).to_bytes(2, "big") + bytes_
 
 
-def parts(path):
+def parts(path: str) -> Tuple[int, bytes, bytes, List[Tuple[bytes, int]], bytes]:
     """A file's bytes up to its tenants, and of its one tenant the numbers, the refs and HEAD."""
     with open(path, "rb") as file:
         text = Text(memoryview(file.read()))
@@ -64,20 +67,20 @@ def parts(path):
     return objects, front, numbers, refs, head
 
 
-def renamed(ref, name):
+def renamed(ref: bytes, name: bytes) -> bytes:
     """A ref's full name has its tenant's name in it."""
     before = b"refs/namespaces/" + ONE + b"/"
     assert ref.startswith(before)
     return b"refs/namespaces/" + name + b"/" + ref[len(before) :]
 
 
-def shared(path, other):
+def shared(path: str, other: str) -> None:
     """Writes the file of as many tenants as are wanted, each of which has all that the one tenant has."""
     _, front, numbers, refs, head = parts(path)
     digest = hashlib.sha1()
     with open(other, "wb") as file:
 
-        def put(bytes_):
+        def put(bytes_: bytes) -> None:
             digest.update(bytes_)
             file.write(bytes_)
 
@@ -89,14 +92,14 @@ def shared(path, other):
         file.write(digest.digest())
 
 
-def large_blobs(stream):
+def large_blobs(stream: str) -> None:
     draw = random.Random(7)
     with open(stream, "wb") as file:
         for _ in range(100):
             file.write(b"blob\ndata 1000000\n" + draw.randbytes(1_000_000) + b"\n")
 
 
-def once(words, given=os.devnull):
+def once(words: List[str], given: str = os.devnull) -> Tuple[float, float, bytes]:
     """Seconds, the most memory in MB, and what is printed. GNU time asks for the memory of the process alone."""
     with tempfile.NamedTemporaryFile() as peak, open(given, "rb") as stdin:
         start = time.monotonic()
@@ -105,39 +108,42 @@ def once(words, given=os.devnull):
         return took, int(peak.read()) * 1024 / 1e6, done.stdout
 
 
-def best(words):
+def best(words: List[str]) -> Tuple[float, float, bytes]:
     """The least time, the most memory, and what the last round printed."""
     all_of_them = [once(words) for _ in range(rounds)]
     return min(it[0] for it in all_of_them), max(it[1] for it in all_of_them), all_of_them[-1][2]
 
 
-def digest_of(path):
+def digest_of(path: str) -> Tuple[bytes, float]:
     """The digest of a file, and the seconds of `sha1sum` over it."""
     took, _, printed = best(["sha1sum", path])
     return printed.split()[0], took
 
 
-def measure(what, path):
+def measure(what: str, path: str) -> None:
     pool = ["--pool", path]
     size = os.path.getsize(path)
     digest, summed = digest_of(path)
     load, held, said = best([program, "check", *pool])
     both, most, _ = best([program, "import", "none", *pool])
     assert digest_of(path)[0] == digest, f"{what}: a save left other bytes"
-    print(f"{what}: {said.decode().strip()}; {size / 1e6:.1f} MB; load {load:.3f} s, {size / load / 1e6:.0f} MB/s, at most {held:.0f} MB;"
-          f" and a save {both - load:.3f} s more, at most {most:.0f} MB; sha1sum {summed:.3f} s, {size / summed / 1e6:.0f} MB/s", flush=True)
+    print(
+        f"{what}: {said.decode().strip()}; {size / 1e6:.1f} MB; load {load:.3f} s, {size / load / 1e6:.0f} MB/s, at most {held:.0f} MB;"
+        f" and a save {both - load:.3f} s more, at most {most:.0f} MB; sha1sum {summed:.3f} s, {size / summed / 1e6:.0f} MB/s",
+        flush=True,
+    )
 
 
-def imported(stream, path):
+def imported(stream: str, path: str) -> None:
     took, most, _ = once([program, "import", ONE.decode(), "--pool", path], stream)
     print(f"import and save: {os.path.getsize(stream) / 1e6:.1f} MB, {took:.3f} s, at most {most:.0f} MB", flush=True)
 
 
-def main():
+def main() -> None:
     with tempfile.TemporaryDirectory() as folder:
         stream, one, many, large = (os.path.join(folder, it) for it in ("stream", "one", "many", "large"))
         with open(stream, "wb") as file:
-            subprocess.run([os.path.join(here, "..", "history", "make_history"), "--commits", commits], check=True, stdout=file)
+            subprocess.run([os.path.join(here, "..", "history", "make_history"), "--commits", str(commits)], check=True, stdout=file)
         imported(stream, one)
         measure("one tenant", one)
         shared(one, many)

@@ -37,7 +37,9 @@ for number in range(count):
     names.append(hashlib.sha1(b"commit %d\0" % len(text) + text).hexdigest())
     texts.append(text)
     message = "c %d\n" % number
-    stream.append("commit refs/heads/b%d\nmark :%d\nauthor %s\ncommitter %s\ndata %d\n%s" % (number % 10 == 5, number + 1, who, who, len(message), message))
+    stream.append(
+        "commit refs/heads/b%d\nmark :%d\nauthor %s\ncommitter %s\ndata %d\n%s" % (number % 10 == 5, number + 1, who, who, len(message), message)
+    )
     stream.append("".join("%s :%d\n" % (word, it + 1) for word, it in zip(("from", "merge"), parents)) + "\n")
 stream.append("reset refs/heads/m\nfrom :%d\n" % count)
 with open(os.path.join(folder, "commits"), "wb") as commits:

@@ -40,9 +40,12 @@ def main() -> None:
         peak = next(line.split()[1] for line in lines if line.startswith("VmHWM"))
     process.communicate()
     rest = sorted(waited[1:])
-    print(f"{count} tenants: the first {waited[0]:.3f} s, the last {waited[-1]:.3f} s; the others {rest[0]:.3f} to {rest[-1]:.3f} s, "
-          f"median {rest[len(rest) // 2]:.3f} s; {wrong} steps refused; {peak} KiB at most" if rest else
-          f"one tenant: {waited[0]:.3f} s; {wrong} steps refused; {peak} KiB at most")
+    print(
+        f"{count} tenants: the first {waited[0]:.3f} s, the last {waited[-1]:.3f} s; the others {rest[0]:.3f} to {rest[-1]:.3f} s, "
+        f"median {rest[len(rest) // 2]:.3f} s; {wrong} steps refused; {peak} KiB at most"
+        if rest
+        else f"one tenant: {waited[0]:.3f} s; {wrong} steps refused; {peak} KiB at most"
+    )
 
 
 main()

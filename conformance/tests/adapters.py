@@ -26,8 +26,15 @@ GOOD = {
 """An importer that accepts every stream and keeps nothing."""
 
 
-def case(name: str = "case", stream: bytes = b"", fault: Optional[int] = None, replies: bytes = b"", kept: Tuple[bytes, ...] = (),
-         state: State = State({}, MAIN), checkpoints: Tuple[Tuple[int, State], ...] = ()) -> Case:
+def case(
+    name: str = "case",
+    stream: bytes = b"",
+    fault: Optional[int] = None,
+    replies: bytes = b"",
+    kept: Tuple[bytes, ...] = (),
+    state: State = State({}, MAIN),
+    checkpoints: Tuple[Tuple[int, State], ...] = (),
+) -> Case:
     """A case that expects nothing, but for what is given."""
     told = Fault(fault, "of a test", len(stream), 1, True) if fault else None
     return Case(name, None, stream, "core", None, None, told, replies, [*kept], state, [], [*checkpoints])

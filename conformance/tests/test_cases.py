@@ -20,9 +20,22 @@ ALL_BYTES = bytes(range(256))
 
 class Files(WithAdapters):
     def whole(self) -> Case:
-        return Case("one", b"first" + ALL_BYTES, ALL_BYTES, "answers", "option gitpool head", "two", fault_at(ALL_BYTES, 2, 5),
-                    ALL_BYTES, [ALL_BYTES], State({ALL_BYTES: NAME}, ALL_BYTES), [(NAME, "blob", 6)], [(3, State({}, MAIN))],
-                    [Rule(1, "a", "b", "c")], {"does": "same"})
+        return Case(
+            "one",
+            b"first" + ALL_BYTES,
+            ALL_BYTES,
+            "answers",
+            "option gitpool head",
+            "two",
+            fault_at(ALL_BYTES, 2, 5),
+            ALL_BYTES,
+            [ALL_BYTES],
+            State({ALL_BYTES: NAME}, ALL_BYTES),
+            [(NAME, "blob", 6)],
+            [(3, State({}, MAIN))],
+            [Rule(1, "a", "b", "c")],
+            {"does": "same"},
+        )
 
     def test_any_byte_survives(self) -> None:
         write_case(self.room, self.whole())
@@ -42,8 +55,7 @@ class Files(WithAdapters):
 
 
 class Items(unittest.TestCase):
-    STREAM = (b"# no\nblob\nmark :1\ndata 11\ncheckpoint\n\ncheckpoint\ndata <<E\ncheckpoint\nE\n\n\n"
-              b"checkpoint\nprogress x\ndone\ncheckpoint\n")
+    STREAM = b"# no\nblob\nmark :1\ndata 11\ncheckpoint\n\ncheckpoint\ndata <<E\ncheckpoint\nE\n\n\n" b"checkpoint\nprogress x\ndone\ncheckpoint\n"
 
     def test_kinds(self) -> None:
         kinds = [it.kind for it in items_of(self.STREAM)]
@@ -70,7 +82,7 @@ class Items(unittest.TestCase):
         self.assertIn(b"M 100644 %b answer\n" % NAME.encode(), core_of(blob + b"cat-blob %b\n" % NAME.encode()))
         self.assertEqual(core_of(b"alias\nmark :2\nto :1\nget-mark :2\n"), b"alias\nmark :2\nto :1\nreset refs/heads/answer-1\nfrom :2\n\n")
         self.assertIn(b"tag answer-1\nfrom :3\n", core_of(b"tag v\nmark :3\nfrom :1\ndata 0\nget-mark :3\n"))
-        self.assertEqual(core_of(b"commit refs/heads/m\ndata 0\nls \"\"\ncat-blob :1\n"), b"commit refs/heads/m\ndata 0\n")
+        self.assertEqual(core_of(b'commit refs/heads/m\ndata 0\nls ""\ncat-blob :1\n'), b"commit refs/heads/m\ndata 0\n")
         self.assertFalse(asks(core_of(self.STREAM)))
 
     def test_variants(self) -> None:
@@ -96,7 +108,6 @@ class Objects(unittest.TestCase):
         self.assertEqual([(it.byte, it.line) for it in told], [(1, 1), (2, 1), (3, 2), (4, 2), (5, 3), (5, 3)])
         self.assertEqual([it.is_at_end for it in told], [False] * 5 + [True])
 
-
     def test_places_are_ends_of_items(self) -> None:
         stream = b"blob\ndata 2\nab\nmark :1\n"
         for byte, fault in ((5, 2), (14, 2), (15, 2), (23, 2), (7, 4)):
@@ -106,8 +117,10 @@ class Objects(unittest.TestCase):
 
 
 class Rules(unittest.TestCase):
-    RULE = ("## part\n\n### 1. A title\n\nText (13).\n\n- *Manual*: Leaves it\n  open.\n- *Git 2.39*: The same.\n"
-            "- *Definition*: a_b Mod `x`,\n  `y`; c Mod2\n- *Cases*: `one`, `two`\n")
+    RULE = (
+        "## part\n\n### 1. A title\n\nText (13).\n\n- *Manual*: Leaves it\n  open.\n- *Git 2.39*: The same.\n"
+        "- *Definition*: a_b Mod `x`,\n  `y`; c Mod2\n- *Cases*: `one`, `two`\n"
+    )
 
     def test_read(self) -> None:
         told = read_rules("# page\n\n" + self.RULE)[0]

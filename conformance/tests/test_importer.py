@@ -99,8 +99,14 @@ class Differing(WithAdapters):
 
     def test_faults_and_places(self) -> None:
         refused = case(stream=b"abc", fault=2)
-        for told, row in (("fault 2", "same"), ("fault 3", "fault"), ("fault 2 byte 3 line 1", "same"), ("fault 2 byte 2 line 1", "fault"),
-                          ("no fault 3", "same"), ("fault 3\nfault 2", "same")):
+        for told, row in (
+            ("fault 2", "same"),
+            ("fault 3", "fault"),
+            ("fault 2 byte 3 line 1", "same"),
+            ("fault 2 byte 2 line 1", "fault"),
+            ("no fault 3", "same"),
+            ("fault 3\nfault 2", "same"),
+        ):
             self.assertEqual(self.row(refused, **{"import": f"echo '{told}' >&2; exit 1"}), row, told)
 
     def test_kept(self) -> None:
@@ -141,8 +147,15 @@ class Differing(WithAdapters):
 class Lines(WithAdapters):
     def test_refs(self) -> None:
         self.assertEqual(read_state(b"HEAD refs/heads/x\n%b refs/y z\n" % NAME.encode()), State({b"refs/y z": NAME}, b"refs/heads/x"))
-        for text in (b"", b"HEAD a\nHEAD b\n", b"%b refs/y\n" % NAME.encode(), b"HEAD a\n%b\n" % NAME.encode(),
-                     b"HEAD a\n" + b"%b refs/y\n" % NAME.encode() * 2, b"HEAD a\n\n", b"HEAD a\n%b refs/y\n" % NAME.upper().encode()):
+        for text in (
+            b"",
+            b"HEAD a\nHEAD b\n",
+            b"%b refs/y\n" % NAME.encode(),
+            b"HEAD a\n%b\n" % NAME.encode(),
+            b"HEAD a\n" + b"%b refs/y\n" % NAME.encode() * 2,
+            b"HEAD a\n\n",
+            b"HEAD a\n%b refs/y\n" % NAME.upper().encode(),
+        ):
             self.assertRaises(Malformed, read_state, text)
 
     def test_objects(self) -> None:
@@ -164,21 +177,26 @@ class Runs(WithAdapters):
         adapters = [self.adapter(name, **{"import": line}) for name, line in kinds.items()]
         run = os.path.join(os.path.dirname(os.path.dirname(os.path.realpath(__file__))), "run")
         results = os.path.join(self.room, "results")
-        done = subprocess.run([sys.executable, run, "--seconds", "3", "--jobs", "2", "--cases", cases, "--results", results, *adapters],
-                              stdout=subprocess.PIPE, check=False)
+        done = subprocess.run(
+            [sys.executable, run, "--seconds", "3", "--jobs", "2", "--cases", cases, "--results", results, *adapters],
+            stdout=subprocess.PIPE,
+            check=False,
+        )
         lines = done.stdout.decode("ascii").splitlines()
         self.assertEqual(lines[:2], ["TAP version 14", "1..10"])
         self.assertEqual(len([it for it in lines if it.startswith(("ok ", "not ok "))]), 10)
         self.assertEqual(sum(it.endswith("| 0 | 0 | 0 | 0 | 2 |") for it in lines), 3)
         self.assertEqual((lines[-1], done.returncode), ("# 1 passed, 9 failed", 1))
-        again = subprocess.run([sys.executable, run, "--seconds", "3", "--cases", cases, "--against", results, *adapters[:2]],
-                               stdout=subprocess.PIPE, check=False)
+        again = subprocess.run(
+            [sys.executable, run, "--seconds", "3", "--cases", cases, "--against", results, *adapters[:2]], stdout=subprocess.PIPE, check=False
+        )
         self.assertEqual((again.stdout.splitlines()[-1], again.returncode), (b"# 4 passed, 0 failed", 0))
         before = read_results(results, "crash")
         self.assertEqual(before, {"one": "breaks", "two": "breaks"})
         self.adapter("crash", **{"import": "cat > /dev/null"})
-        subprocess.run([sys.executable, run, "--cases", cases, "--case", "one", "--results", results, adapters[1]],
-                       stdout=subprocess.DEVNULL, check=True)
+        subprocess.run(
+            [sys.executable, run, "--cases", cases, "--case", "one", "--results", results, adapters[1]], stdout=subprocess.DEVNULL, check=True
+        )
         self.assertEqual(read_results(results, "crash"), {"two": "breaks"})
         self.assertEqual(first_line(results, "crash").split(",")[0], "test 1")
 

@@ -45,8 +45,7 @@ class WrongRules(unittest.TestCase):
         self.change("alias", definitions=[("stream_commands", "Refs", "no_such_name"), ("stream_commands", "NoSuchModule", "")])
         for words in ("stream_commands Refs no_such_name", "NoSuchModule", "no rule names stream_grammar Acts Alias"):
             self.assert_found("look_at_definitions", words)
-        self.rules = [it._replace(definitions=[at for at in it.definitions if at[2] != "start_in" and at[0] != "tenant_tables"])
-                      for it in self.rules]
+        self.rules = [it._replace(definitions=[at for at in it.definitions if at[2] != "start_in" and at[0] != "tenant_tables"]) for it in self.rules]
         self.assert_found("look_at_definitions", "no rule names stream_commands CommitIshes start_in")
         self.assert_found("look_at_definitions", "no rule names tenant_tables Abbreviation")
 

@@ -7,8 +7,24 @@ from gitpool_frames import Kind, Step
 from hosts import OK
 from world import BAD_NAME, BAD_NAMES, World, fault
 
-EXPRESSIONS = (b"HEAD", b"@", b"main", b"dev", b"refs/heads/main", b"main~1", b"HEAD^2", b"v1", b"v1^{}", b"light", b"main:d", b"dev:a",
-               b"main^{tree}", b"main:d/e", b"no", b"side/a~2")
+EXPRESSIONS = (
+    b"HEAD",
+    b"@",
+    b"main",
+    b"dev",
+    b"refs/heads/main",
+    b"main~1",
+    b"HEAD^2",
+    b"v1",
+    b"v1^{}",
+    b"light",
+    b"main:d",
+    b"dev:a",
+    b"main^{tree}",
+    b"main:d/e",
+    b"no",
+    b"side/a~2",
+)
 RANGES = (b"HEAD", b"main", b"main..dev", b"dev...main", b"v1..HEAD", b"side/a")
 CUTS = (1, 2, 7, 30, 120, 400, 1 << 20, 1 << 20)
 

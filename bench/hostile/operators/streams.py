@@ -12,9 +12,21 @@ HEADS = (b"refs/heads/main", b"refs/heads/dev", b"refs/heads/dev", b"refs/heads/
 PATHS = (b"a", b"b.txt", b"c", b"d/x", b"d/y", b"d/e/z", b"f/g/h/i", b'"q uoted"')
 MODES = (b"100644", b"644", b"100644", b"100755", b"120000")
 TAGS = (b"v1", b"v2", b"v3", b"light")
-WRONG = (b"get-mark :999\n", b"nonsense\n", b"blob\ndata x\n", b"reset refs/heads/main\nfrom :999\n", b"tag \nfrom :1\n", b"feature done\n",
-         b"commit refs/heads/main\nmark :1\ndata 0\n", b"cat-blob :998\n", b"M 644 :1 a\n", b"alias\nmark :5\nto refs/heads/none\n\n",
-         b"commit x\n", b"commit refs/heads/main\ncommitter A <a@b> 1 +0000\ndata 0\nM 123 inline a\n", b"reset refs/heads/main\nfrom nowhere\n")
+WRONG = (
+    b"get-mark :999\n",
+    b"nonsense\n",
+    b"blob\ndata x\n",
+    b"reset refs/heads/main\nfrom :999\n",
+    b"tag \nfrom :1\n",
+    b"feature done\n",
+    b"commit refs/heads/main\nmark :1\ndata 0\n",
+    b"cat-blob :998\n",
+    b"M 644 :1 a\n",
+    b"alias\nmark :5\nto refs/heads/none\n\n",
+    b"commit x\n",
+    b"commit refs/heads/main\ncommitter A <a@b> 1 +0000\ndata 0\nM 123 inline a\n",
+    b"reset refs/heads/main\nfrom nowhere\n",
+)
 
 
 class Texts:
@@ -62,7 +74,14 @@ class Writer:
         """A whole stream."""
         has_done = self._features()
         commands: Tuple[Tuple[Callable[[], None], float], ...] = (
-            (self._blob, 4), (self._commit, 8), (self._tag, 2), (self._reset, 2), (self._checkpoint, 2.5), (self._reply, 1.5), (self._alias, 0.4))
+            (self._blob, 4),
+            (self._commit, 8),
+            (self._tag, 2),
+            (self._reset, 2),
+            (self._checkpoint, 2.5),
+            (self._reply, 1.5),
+            (self._alias, 0.4),
+        )
         calls, weights = [it[0] for it in commands], [it[1] for it in commands]
         for call in self._draw.choices(calls, weights, k=self._draw.randint(1, 9)):
             call()

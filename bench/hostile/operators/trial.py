@@ -13,8 +13,19 @@ from steps import ask, bad_name, restart, restart_apart, streaming
 from world import World
 
 Acts = Sequence[Tuple[Callable[[World], None], float]]
-HOSTED: Acts = ((streaming, 60), (ask, 12), (restart, 1), (bad_name, 1), (abandon, 2.5), (remove, 3), (compact, 4), (copy, 4), (sizes, 2), (save, 2),
-                (save_as_opened, 2.5))
+HOSTED: Acts = (
+    (streaming, 60),
+    (ask, 12),
+    (restart, 1),
+    (bad_name, 1),
+    (abandon, 2.5),
+    (remove, 3),
+    (compact, 4),
+    (copy, 4),
+    (sizes, 2),
+    (save, 2),
+    (save_as_opened, 2.5),
+)
 BETWEEN: Acts = ((import_stream, 4), (ask, 2), (remove, 2), (compact, 3), (copy, 3), (sizes, 1), (check, 1), (extract, 2), (back_up, 1), (merge, 4))
 
 

@@ -101,9 +101,23 @@ def empties() -> bytes:
 
 def modes_and_names() -> bytes:
     made = Lines().blob(1, b"#!/bin/sh\n").blob(2, b"target")
-    lines = [b"M 100755 :1 run", b"M 120000 :2 link", b"M 100644 :1 a.b", b"M 100644 :2 a/b", b"M 100644 :1 a0", b"M 100644 :2 a-b",
-             b'M 100644 :1 "sp ace\\n\\303\\244"', b'M 100644 :2 "\\377\\001/\\t\\"\\\\"', b"M 100644 :1 " + b"n" * 255, b"M 100755 :2 B",
-             b"M 100644 :1 b", b"M 100644 :1 -x", b"M 100644 :2 ...", b"M 100644 :2 c/c/c/c", b"M 100644 :2 c/c-c"]
+    lines = [
+        b"M 100755 :1 run",
+        b"M 120000 :2 link",
+        b"M 100644 :1 a.b",
+        b"M 100644 :2 a/b",
+        b"M 100644 :1 a0",
+        b"M 100644 :2 a-b",
+        b'M 100644 :1 "sp ace\\n\\303\\244"',
+        b'M 100644 :2 "\\377\\001/\\t\\"\\\\"',
+        b"M 100644 :1 " + b"n" * 255,
+        b"M 100755 :2 B",
+        b"M 100644 :1 b",
+        b"M 100644 :1 -x",
+        b"M 100644 :2 ...",
+        b"M 100644 :2 c/c/c/c",
+        b"M 100644 :2 c/c-c",
+    ]
     return made.commit(10, (), lines=b"\n".join(lines) + b"\n").commit(11, [10], lines=b"D a\nM 100644 :1 a\n").stream()
 
 
@@ -178,14 +192,29 @@ def file_for_directory() -> bytes:
 def histories() -> Dict[str, bytes]:
     """All of them, by what they have."""
     return {
-        "one empty commit": Lines().commit(10).stream(), "a blob and no ref": Lines().blob(1, b"x\n").stream(),
+        "one empty commit": Lines().commit(10).stream(),
+        "a blob and no ref": Lines().blob(1, b"x\n").stream(),
         "a line of commits": line_of_commits(),
-        "two sides that merge": two_sides(), "merges that cross": crossed(), "an octopus of 3 parents": octopus(3),
-        "an octopus of 60 parents": octopus(60), "thirty roots": roots(), "nested tags": nested_tags(), "tags of blobs": tags_of_blobs(),
-        "gitlinks": gitlinks(), "a gitlink and nothing else": links_alone(), "empty trees and blobs": empties(),
-        "modes and odd names": modes_and_names(), "two hundred directories deep": deep(), "3,000 files in a directory": wide(),
-        "reverts": reverts(), "objects that no ref reaches": unreached(), "one tree at several places": one_tree_twice(),
-        "long messages": long_messages(), "a file, then a directory": file_for_directory(), "a blob of 65,535 bytes": of_size(65_535),
-        "a blob of 65,536 bytes": of_size(65_536), "blobs at the edges of sizes and blocks": of_size(*SIZES),
+        "two sides that merge": two_sides(),
+        "merges that cross": crossed(),
+        "an octopus of 3 parents": octopus(3),
+        "an octopus of 60 parents": octopus(60),
+        "thirty roots": roots(),
+        "nested tags": nested_tags(),
+        "tags of blobs": tags_of_blobs(),
+        "gitlinks": gitlinks(),
+        "a gitlink and nothing else": links_alone(),
+        "empty trees and blobs": empties(),
+        "modes and odd names": modes_and_names(),
+        "two hundred directories deep": deep(),
+        "3,000 files in a directory": wide(),
+        "reverts": reverts(),
+        "objects that no ref reaches": unreached(),
+        "one tree at several places": one_tree_twice(),
+        "long messages": long_messages(),
+        "a file, then a directory": file_for_directory(),
+        "a blob of 65,535 bytes": of_size(65_535),
+        "a blob of 65,536 bytes": of_size(65_536),
+        "blobs at the edges of sizes and blocks": of_size(*SIZES),
         "a blob of 20 MB": of_size(20_000_000),
     }

@@ -5,8 +5,28 @@ from __future__ import annotations
 import random
 from typing import List, Sequence, Tuple
 
-PATHS = (b"a", b"a.b", b"a0", b"b/a", b"b/c", b"b/d/a", b"b/d/e/f/g", b"c/x", b"c/y", b"c/z/x", b"f", b"f/g", b"x" * 200, b'"sp ace"',
-         b'"\\303\\244/\\n"', b'"tab\\there/\\"quoted\\""', b"-dash", b"B/a", b".a", b"~")
+PATHS = (
+    b"a",
+    b"a.b",
+    b"a0",
+    b"b/a",
+    b"b/c",
+    b"b/d/a",
+    b"b/d/e/f/g",
+    b"c/x",
+    b"c/y",
+    b"c/z/x",
+    b"f",
+    b"f/g",
+    b"x" * 200,
+    b'"sp ace"',
+    b'"\\303\\244/\\n"',
+    b'"tab\\there/\\"quoted\\""',
+    b"-dash",
+    b"B/a",
+    b".a",
+    b"~",
+)
 LINKS = (b"sub", b"c/sub", b"b/d/sub")
 MODES = (b"100644", b"100644", b"100644", b"100755", b"120000")
 REFS = (b"refs/heads/main", b"refs/heads/dev", b"refs/heads/side/a", b"refs/heads/side/b", b"refs/tags/light", b"refs/notes/commits")
@@ -132,8 +152,16 @@ class Lines:
         self._out.append(b"blob\nmark :%d\n" % mark + data(text))
         return self
 
-    def commit(self, mark: int, parents: Sequence[int] = (), files: Sequence[Tuple[bytes, int]] = (), *, ref: bytes = b"refs/heads/main",
-               lines: bytes = b"", message: bytes = b"m\n") -> "Lines":
+    def commit(
+        self,
+        mark: int,
+        parents: Sequence[int] = (),
+        files: Sequence[Tuple[bytes, int]] = (),
+        *,
+        ref: bytes = b"refs/heads/main",
+        lines: bytes = b"",
+        message: bytes = b"m\n",
+    ) -> "Lines":
         """A commit that puts blobs at paths, and then has more lines of changes."""
         self._seconds += 60
         begin = b"" if parents else b"reset %b\n\n" % ref

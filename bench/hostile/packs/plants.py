@@ -26,6 +26,7 @@ def listed(tenant: Tenant, names: Iterable[bytes]) -> Listing:
 
 def of_listing(edit: ListingEdit) -> Plant:
     """A plant that changes what a Missing lists."""
+
     def plant(draw: random.Random, tenants: Sequence[Tenant], question: Question, step: Step, answer: Answer) -> Answer:
         if step.kind != Kind.MISSING or answer.status:
             return answer
@@ -37,6 +38,7 @@ def of_listing(edit: ListingEdit) -> Plant:
 
 def of_entry(edit: EntryEdit) -> Plant:
     """A plant that changes one entry of an Entries, if there is one that it changes."""
+
     def plant(draw: random.Random, _tenants: Sequence[Tenant], _question: Question, step: Step, answer: Answer) -> Answer:
         if step.kind != Kind.ENTRIES or answer.status:
             return answer
@@ -53,6 +55,7 @@ def of_entry(edit: EntryEdit) -> Plant:
 
 
 # Listings
+
 
 def drop(draw: random.Random, _tenants: Sequence[Tenant], _question: Question, found: Listing) -> Optional[Listing]:
     """An object is left out."""
@@ -140,6 +143,7 @@ def foreign(_draw: random.Random, tenants: Sequence[Tenant], question: Question,
 
 # Refusals
 
+
 def lenient(_draw: random.Random, _tenants: Sequence[Tenant], question: Question, step: Step, answer: Answer) -> Answer:
     """A want that the tenant has not counts for nothing, instead of being refused."""
     if step.kind == Kind.MISSING and answer.status and question.is_refused:
@@ -175,6 +179,7 @@ def sorted_entries(_draw: random.Random, _tenants: Sequence[Tenant], question: Q
 
 
 # Entries
+
 
 def stored(content: Content, block: int = 65_535) -> bytes:
     """The entry of an object, in blocks of at most so many bytes."""
