@@ -6,6 +6,7 @@ import (
 	"fmt"
 	"os"
 	"strings"
+	"syscall"
 
 	"gitpoold/journal"
 	"gitpoold/poolfile"
@@ -122,7 +123,7 @@ func statusOf(err error) int {
 		return statusDevice
 	case errors.As(err, &damaged), errors.As(err, &bad), errors.As(err, &two), errors.Is(err, poolfile.ErrForm), errors.Is(err, store.ErrLoad):
 		return statusDamaged
-	case errors.Is(err, store.ErrInHand), errors.Is(err, os.ErrNotExist), errors.Is(err, os.ErrPermission):
+	case errors.Is(err, store.ErrInHand), errors.Is(err, os.ErrNotExist), errors.Is(err, os.ErrPermission), errors.Is(err, syscall.EROFS):
 		return statusDevice
 	}
 	return statusRefused

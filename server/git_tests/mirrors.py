@@ -102,12 +102,14 @@ class Mirror:
             raise NotKept("the repository is shallow, and a tenant is not")
         now = self.state()
         self._file.seek(0)
-        if self._file.read() == now:
+        before = self._file.read()
+        if before == now:
             return
         done = own_git(self.at, "-c", "push.followTags=false", "-c", "push.default=matching", "push", "--no-verify", "--mirror", self.url)
         if done.returncode:
             raise NotKept(" / ".join(it for it in done.stderr.decode(errors="replace").splitlines() if "error" in it or "reject" in it)[:300])
         self._set_head(now.splitlines()[0])
+        self._set_one_level(one_level(before), one_level(now))
         self._remember(now)
 
     def _set_head(self, head: str) -> None:
@@ -115,6 +117,11 @@ class Mirror:
             stream = f"option gitpool head {head[5:]}\n".encode()
             answers = frames(self.tenant, [(1, b""), (2, stream), (3, b"")])
             assert [it[0] for it in answers] == [0, 0, 0], answers
+
+    def _set_one_level(self, before: Dict[str, str], now: Dict[str, str]) -> None:
+        """Sets the refs of one level, which git pushes nowhere. One is left out if no ref that is pushed has its object, as refs/stash."""
+        for ref, name in {**dict.fromkeys(before, ZEROS), **now}.items():
+            frames(self.tenant, [(1, b""), (2, f"reset {ref}\nfrom {name}\n\n".encode()), (3, b"")])
 
     def _remember(self, now: str) -> None:
         assert self._file
@@ -125,6 +132,7 @@ class Mirror:
     def take(self) -> None:
         """Brings the repository to what the tenant has after a push."""
         before = refs_of(own_git(self.at, "for-each-ref", "--format=%(objectname)\t%(refname)").stdout)
+        before = {ref: name for ref, name in before.items() if not is_one_level(ref)}
         after = refs_of(own_git(self.at, "ls-remote", "--refs", self.url).stdout)
         if before == after:
             return
@@ -135,6 +143,17 @@ class Mirror:
         if done.returncode:
             raise NotKept("the repository cannot take what was pushed: " + done.stderr.decode(errors="replace")[:200])
         self._remember(self.state())
+
+
+def is_one_level(ref: str) -> bool:
+    """Whether a ref is such as refs/stash, which git neither pushes nor lists for a push."""
+    return ref.count("/") == 1
+
+
+def one_level(state: str) -> Dict[str, str]:
+    """The refs of one level in what a repository has."""
+    pairs = (line.rsplit(" ", 1) for line in state.splitlines()[1:])
+    return {ref: name for ref, name in pairs if is_one_level(ref)}
 
 
 def refs_of(listed: bytes) -> Dict[str, str]:

@@ -79,6 +79,9 @@ func (s *server) ServeHTTP(w http.ResponseWriter, r *http.Request) {
 	e := &exchange{server: s, w: &counting{ResponseWriter: w, status: http.StatusOK}, r: r, began: time.Now()}
 	e.record = logs.Request{Protocol: "http", Address: address(r), What: r.Method + " " + r.URL.Path}
 	defer e.log()
+	// Whatever the peer does, its connection ends then.
+	timer := time.AfterFunc(s.Limits.Get().Request, func() { stop(r) })
+	defer timer.Stop()
 	defer e.finish()
 	switch {
 	case r.URL.Path == "/metrics" && isOwn(r):
@@ -166,9 +169,6 @@ func (e *exchange) with(method string, answer func(*exchange, context.Context, t
 		return
 	}
 	e.meter, e.w.meter = meter, meter
-	// Whatever the peer does, its connection ends then.
-	timer := time.AfterFunc(e.Limits.Get().Request, func() { stop(e.r) })
-	defer timer.Stop()
 	answer(e, e.r.Context(), t)
 }
 

@@ -49,9 +49,6 @@ func (e *exchange) page(place pages.Place) {
 		return
 	}
 	defer leave()
-	// Whatever the peer does, its connection ends then.
-	timer := time.AfterFunc(e.Limits.Get().Request, func() { stop(e.r) })
-	defer timer.Stop()
 	e.visit(v)
 }
 

@@ -81,10 +81,7 @@ func (j *Files) Sync(number uint64) error {
 	defer j.mutex.Unlock()
 	for j.synced.number < number {
 		if j.appended.number < number {
-			return ErrBroken
-		}
-		if j.broken != nil {
-			return j.broken
+			return j.lostBy()
 		}
 		if j.syncing {
 			j.changed.Wait()
@@ -93,6 +90,14 @@ func (j *Files) Sync(number uint64) error {
 		j.syncOnce()
 	}
 	return nil
+}
+
+// lostBy is the error of who asks for a record that was taken back.
+func (j *Files) lostBy() error {
+	if j.broken != nil {
+		return j.broken
+	}
+	return ErrBroken
 }
 
 // syncOnce syncs what is appended, without the lock meanwhile.
@@ -118,6 +123,7 @@ func (j *Files) fail(err error) {
 	j.tell("the journal cannot be synced: %v", err)
 	j.losses++
 	j.broken = j.takeBack(j.synced, ErrBroken)
+	j.appended = j.synced
 	if j.broken == ErrBroken && j.file.Sync() != nil {
 		j.broken = ErrUnknown
 	}

@@ -240,6 +240,28 @@ func TestEachFlippedByteStopsTheStart(t *testing.T) {
 	hasSteps(t, opened(t, folder, pools[0]), 0, 9)
 }
 
+// TestAFlippedByteBeforeATornEndStopsTheStart has both: records that were told stand behind the flipped byte, so nothing is dropped.
+func TestAFlippedByteBeforeATornEndStopsTheStart(t *testing.T) {
+	folder := t.TempDir()
+	filled(t, opened(t, folder, pools[0]), 0, 6)
+	whole, _ := os.ReadFile(path(folder, 1))
+	last := len(whole) - headBytes - step(5).Size() - chainBytes
+	torn := append(append([]byte(nil), whole[:len(whole)-chainBytes]...), make([]byte, 100)...)
+	for at := emptySegment; at < last; at++ {
+		bad := append([]byte(nil), torn...)
+		bad[at] ^= 0x40
+		os.WriteFile(path(folder, 1), bad, 0o600)
+		var damaged *Damaged
+		if _, err := Open(folder, pools[0], quiet); !errors.As(err, &damaged) {
+			t.Fatalf("byte %d: %v", at, err)
+		}
+		if left, _ := os.ReadFile(path(folder, 1)); !bytes.Equal(left, bad) {
+			t.Fatalf("byte %d: changed", at)
+		}
+	}
+	hasAfterCrash(t, torn, 5, false)
+}
+
 func TestHolesAndMissingSegmentsStopTheStart(t *testing.T) {
 	folder := t.TempDir()
 	j := opened(t, folder, pools[0])
@@ -333,9 +355,36 @@ func TestAFailedSyncTakesRecordsBack(t *testing.T) {
 	if err := j.Begin(pools[1], nil); err != nil {
 		t.Fatal(err)
 	}
-	if _, err := j.Append(step(5)); err != nil || j.IsBroken() {
+	if _, err := j.Append(step(4)); err != nil || j.IsBroken() {
 		t.Fatal(err)
 	}
+	// The next start finds either pool file.
+	hasStepsAfter(t, opened(t, folder, pools[0]), pools[0], 0, 5)
+	hasStepsAfter(t, opened(t, folder, pools[1]), pools[1], 4, 5)
+}
+
+// TestARecordThatCannotBeCutSpoilsNoOther has a record that can neither be written nor cut. Those before it last, as is told, and a save
+// lets the journal go on behind them.
+func TestARecordThatCannotBeCutSpoilsNoOther(t *testing.T) {
+	folder := t.TempDir()
+	j := opened(t, folder, pools[0])
+	filled(t, j, 0, 4)
+	number, _ := j.Append(step(4))
+	writable := j.file
+	j.file, _ = os.Open(path(folder, 1))
+	if _, err := j.Append(step(5)); !errors.Is(err, ErrUnknown) || !j.IsBroken() {
+		t.Fatal(err)
+	}
+	writable.WriteAt([]byte("a part of it"), j.appended.size)
+	writable.Close()
+	if err := j.Sync(number); err != nil {
+		t.Fatal("a record that is there is told to be lost:", err)
+	}
+	if err := j.Begin(pools[1], nil); err != nil {
+		t.Fatal(err)
+	}
+	filled(t, j, 5, 6)
+	hasStepsAfter(t, opened(t, folder, pools[0]), pools[0], 0, 6)
 }
 
 func TestOneSyncServesMany(t *testing.T) {

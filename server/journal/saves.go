@@ -13,12 +13,8 @@ import (
 func (j *Files) Begin(pool Digest, open []uint64) error {
 	j.mutex.Lock()
 	defer j.mutex.Unlock()
-	if j.broken == nil {
-		if err := j.file.Sync(); err != nil {
-			j.fail(err)
-			return j.broken
-		}
-		j.synced = j.appended
+	if err := j.settle(); err != nil {
+		return err
 	}
 	made := segment{number: j.current().number + 1, pool: pool, open: open}
 	file, err := made.create(j.folder, j.synced)
@@ -34,6 +30,36 @@ func (j *Files) Begin(pool Digest, open []uint64) error {
 	j.segments = append(j.segments, made)
 	j.file, j.appended, j.synced, j.broken = file, made.end, made.end, nil
 	return nil
+}
+
+// settle brings the file of the segment that takes records to its last record, and all of that to the disk: the next segment goes on from
+// there, so a start would take anything behind it for damage.
+func (j *Files) settle() error {
+	if j.broken != nil {
+		if err := j.cut(); err != nil {
+			return err
+		}
+	}
+	if err := j.file.Sync(); err != nil {
+		j.fail(err)
+		return j.broken
+	}
+	j.synced = j.appended
+	return nil
+}
+
+// cut cuts the file behind the last record, through another handle where the one at hand fails.
+func (j *Files) cut() error {
+	if j.file.Truncate(j.appended.size) == nil {
+		return nil
+	}
+	file, err := os.OpenFile(path(j.folder, j.current().number), os.O_RDWR, 0)
+	if err != nil {
+		return err
+	}
+	j.file.Close()
+	j.file = file
+	return file.Truncate(j.appended.size)
 }
 
 // Drop removes the segments that are not needed any more: the pool file that the last one names is in its place and synced.

@@ -303,7 +303,7 @@ func baseOf(all []segment, pool Digest) (at int, found bool) {
 
 // isTorn tells whether what is behind a mark is what a crash leaves of a record: its beginning, or its beginning and zeros, to the end
 // of the file. A whole record ends in a digest, which is not all zeros; so a record that was written whole and changed later is not
-// torn, and neither is one that others follow.
+// torn, and neither is one that others follow, whole or torn.
 func isTorn(file *os.File, end mark, size int64) (bool, error) {
 	rest := size - end.size
 	if rest < headBytes {
@@ -313,11 +313,35 @@ func isTorn(file *os.File, end mark, size int64) (bool, error) {
 	if _, err := file.ReadAt(bytes[:], end.size); err != nil {
 		return false, err
 	}
-	h := readHead(bytes[:])
-	if h.isGood && h.number == end.number+1 && h.recordBytes() > rest {
+	h, zeros := readHead(bytes[:]), end.size+headBytes
+	switch {
+	case h.isGood && h.number != end.number+1:
+		return false, nil
+	case h.isGood && h.recordBytes() > rest:
 		return true, nil
+	case h.isGood:
+		zeros = end.size + h.recordBytes() - 1
 	}
-	tail := make([]byte, headBytes)
-	_, err := file.ReadAt(tail, size-headBytes)
-	return strings.Trim(string(tail), "\x00") == "", err
+	return hasZeros(file, smaller(zeros, size-headBytes), size)
+}
+
+func smaller(a, b int64) int64 {
+	if a < b {
+		return a
+	}
+	return b
+}
+
+// hasZeros tells whether a file has nothing but zeros from one place to another.
+func hasZeros(file *os.File, from, to int64) (bool, error) {
+	in := bufio.NewReader(io.NewSectionReader(file, from, to-from))
+	for {
+		found, err := in.ReadByte()
+		if err == io.EOF {
+			return true, nil
+		}
+		if err != nil || found != 0 {
+			return false, err
+		}
+	}
 }

@@ -3,6 +3,7 @@ package lists
 
 import (
 	"errors"
+	"io/fs"
 	"os"
 	"path/filepath"
 	"strings"
@@ -95,10 +96,11 @@ type Followed[T any] struct {
 	// Tell is told when they cannot be read; what was read before holds then.
 	Tell func(format string, values ...any)
 
-	paths []string
-	mutex sync.Mutex
-	seen  []stamp
-	value T
+	paths   []string
+	mutex   sync.Mutex
+	seen    []stamp
+	value   T
+	tryFrom time.Time
 }
 
 // stamp says which file stands at a path.
@@ -123,7 +125,7 @@ func (f *Followed[T]) Get() T {
 	defer f.mutex.Unlock()
 	now := f.stamps()
 	for i := range now {
-		if now[i] != f.seen[i] {
+		if now[i] != f.seen[i] && !time.Now().Before(f.tryFrom) {
 			f.readAgain(now)
 			break
 		}
@@ -131,14 +133,24 @@ func (f *Followed[T]) Get() T {
 	return f.value
 }
 
+// tryAgainAfter is how long files are left alone that are there and could not be read.
+const tryAgainAfter = time.Second
+
+// readAgain reads the files. What they say may be wrong, and then they have to change again. Where they could not be read, as in a process
+// that has too many files open, they are tried again: a grant may have been taken back in them.
 func (f *Followed[T]) readAgain(now []stamp) {
-	f.seen = now
 	value, err := f.Read()
-	if err != nil {
-		f.Tell("%v; what was read before holds", err)
+	var unread *fs.PathError
+	switch {
+	case err == nil:
+		f.seen, f.value = now, value
 		return
+	case errors.As(err, &unread) && !errors.Is(err, fs.ErrNotExist):
+		f.tryFrom = time.Now().Add(tryAgainAfter)
+	default:
+		f.seen = now
 	}
-	f.value = value
+	f.Tell("%v; what was read before holds", err)
 }
 
 func (f *Followed[T]) stamps() []stamp {

@@ -2,11 +2,14 @@ package lists
 
 import (
 	"errors"
+	"io/fs"
 	"os"
 	"path/filepath"
 	"reflect"
 	"sync"
+	"syscall"
 	"testing"
+	"time"
 )
 
 func TestChangesOfManyAreAllThere(t *testing.T) {
@@ -71,5 +74,33 @@ func TestFollowedFilesAreReadWhenTheyChange(t *testing.T) {
 	os.WriteFile(path, []byte("bad"), 0o600)
 	if f.Get() != "one" || told != 1 || f.Get() != "one" || reads != 3 {
 		t.Fatal(f.Get(), reads, told)
+	}
+}
+
+// TestFilesThatCannotBeReadAreReadLater has a grant taken back while the process has too many files open.
+func TestFilesThatCannotBeReadAreReadLater(t *testing.T) {
+	path := filepath.Join(t.TempDir(), "access")
+	os.WriteFile(path, []byte("granted"), 0o600)
+	isFull, told := false, 0
+	f, err := Follow(func() (string, error) {
+		if isFull {
+			return "", &fs.PathError{Op: "open", Path: path, Err: syscall.EMFILE}
+		}
+		text, err := os.ReadFile(path)
+		return string(text), err
+	}, func(string, ...any) { told++ }, path)
+	if err != nil {
+		t.Fatal(err)
+	}
+	isFull = true
+	os.WriteFile(path, []byte("taken back"), 0o600)
+	if f.Get() != "granted" || f.Get() != "granted" || told != 1 {
+		t.Fatalf("%q, told %d times", f.Get(), told)
+	}
+	isFull = false
+	for until := time.Now().Add(20 * time.Second); f.Get() != "taken back"; time.Sleep(20 * time.Millisecond) {
+		if time.Now().After(until) {
+			t.Fatalf("%q", f.Get())
+		}
 	}
 }

@@ -28,11 +28,29 @@ func TestPackets(t *testing.T) {
 func TestWhatIsNoPacket(t *testing.T) {
 	for text, want := range map[string]error{
 		"": io.EOF, "0": io.ErrUnexpectedEOF, "0009don": io.ErrUnexpectedEOF, "0005": io.ErrUnexpectedEOF, "0003": ErrMalformed,
-		"zzzz": ErrMalformed, "fff1": ErrMalformed, "-001": ErrMalformed, "00 5a": ErrMalformed, "0010" + strings.Repeat("a", 12): ErrTooMuch,
+		"zzzz": ErrMalformed, "fff1": ErrMalformed, "-001": ErrMalformed, "00 5a": ErrMalformed, "0050" + strings.Repeat("a", 76): ErrTooMuch,
 	} {
-		if _, err := reader(text, 15).Next(); err != want {
+		if _, err := reader(text, 79).Next(); err != want {
 			t.Errorf("%q: %v", text, err)
 		}
+	}
+}
+
+// TestShortLinesCountWhatTheyTake has a request of lines of one byte: it may not make many times its own size of memory.
+func TestShortLinesCountWhatTheyTake(t *testing.T) {
+	r, lines := reader(strings.Repeat("0005a", 100), 64*10), 0
+	for {
+		_, err := r.Next()
+		if err == ErrTooMuch {
+			break
+		}
+		if err != nil {
+			t.Fatal(err)
+		}
+		lines++
+	}
+	if lines != 10 {
+		t.Fatalf("%d lines", lines)
 	}
 }
 

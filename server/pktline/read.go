@@ -42,7 +42,10 @@ type Reader struct {
 	index [4]byte
 }
 
-// NewReader makes a reader of at most so many bytes of lines.
+// leastCost is what a line counts at least: to hold a short line takes more than its bytes.
+const leastCost = 64
+
+// NewReader makes a reader of at most so many bytes of lines; a short line counts as 64 of them.
 func NewReader(in *bufio.Reader, most int64) *Reader {
 	return &Reader{in: in, left: most}
 }
@@ -60,10 +63,17 @@ func (r *Reader) Next() (Packet, error) {
 	if size < len(r.index) {
 		return special(size)
 	}
-	if r.left -= int64(size); r.left < 0 {
+	if r.left -= cost(size); r.left < 0 {
 		return Packet{}, ErrTooMuch
 	}
 	return r.data(size - len(r.index))
+}
+
+func cost(size int) int64 {
+	if size < leastCost {
+		return leastCost
+	}
+	return int64(size)
 }
 
 func (r *Reader) data(size int) (Packet, error) {

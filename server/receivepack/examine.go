@@ -64,18 +64,20 @@ func (p *push) examineCommits(ctx context.Context) error {
 
 func (p *push) examineTags(ctx context.Context) error {
 	return p.each(ctx, tenants.Tag, func(_ int, o tenants.Object) error {
-		tag, err := readTag(o)
+		tag, err := objects.ReadTag(o.Name, o.Contents)
 		if err == nil && !p.AllowsSuspect {
 			err = objects.FsckTag(o.Name, tag, o.Contents)
 		}
-		p.tags[o.Name] = tag
+		if err == nil {
+			p.tags[o.Name] = nameplate(tag)
+		}
 		return err
 	})
 }
 
-// readTag reads a tag that is kept for the whole push, and so has bytes of its own.
-func readTag(o tenants.Object) (*objects.Tag, error) {
-	return objects.ReadTag(o.Name, append([]byte{}, o.Contents...))
+// nameplate is what a push keeps of a tag until it is told: a pack may have as many bytes of tags as of anything.
+func nameplate(tag *objects.Tag) *objects.Tag {
+	return &objects.Tag{Target: tag.Target, Kind: tag.Kind, Name: tag.Name}
 }
 
 func (p *push) examineTrees(ctx context.Context) error {
@@ -212,14 +214,14 @@ func (p *push) examineTarget(ctx context.Context, change Change) error {
 }
 
 func (p *push) examineTagRef(change Change, o tenants.Object) error {
-	tag, err := readTag(o)
+	tag, err := objects.ReadTag(o.Name, o.Contents)
 	if err != nil {
 		return err
 	}
 	if own := tagRefs + tag.Name; own != change.Ref {
 		return refusal("an annotated tag is kept under its own name alone, " + strings.ToValidUTF8(own, "?"))
 	}
-	p.tags[o.Name] = tag
+	p.tags[o.Name] = nameplate(tag)
 	return nil
 }
 

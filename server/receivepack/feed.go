@@ -249,8 +249,25 @@ func (f *feeding) tag(name tenants.Name) error {
 			return err
 		}
 	}
-	f.put(tagCommand(tag, "mark :1\n"))
+	command, err := f.tagCommand(name, "mark :1\n")
+	if err != nil {
+		return err
+	}
+	f.put(command)
 	return f.expect(name)
+}
+
+// tagCommand reads a tag and gives the command that makes it, with the line of its mark, if any.
+func (f *feeding) tagCommand(name tenants.Name, mark string) (string, error) {
+	o, err := f.own.Object(f.ctx, name)
+	if err != nil {
+		return "", err
+	}
+	tag, err := objects.ReadTag(name, o.Contents)
+	if err != nil {
+		return "", err
+	}
+	return tagCommand(tag, mark), nil
 }
 
 // tagCommand gives the command that makes a tag, with the line of its mark, if any.
@@ -321,11 +338,7 @@ func (f *feeding) restoring(ref string, target tenants.Name) (string, error) {
 	if err != nil || o.Kind != tenants.Tag {
 		return resetCommand(ref, target), err
 	}
-	tag, err := objects.ReadTag(target, o.Contents)
-	if err != nil {
-		return "", err
-	}
-	return tagCommand(tag, ""), nil
+	return f.tagCommand(target, "")
 }
 
 func resetCommand(ref string, target tenants.Name) string {

@@ -3,13 +3,18 @@ package receivepack
 import (
 	"bufio"
 	"bytes"
+	"compress/zlib"
+	"context"
+	"encoding/binary"
 	"fmt"
 	"reflect"
+	"runtime"
 	"sort"
 	"strings"
 	"testing"
 
 	"gitpoold/objects"
+	"gitpoold/pack"
 	"gitpoold/pktline"
 	"gitpoold/tenants"
 )
@@ -92,6 +97,61 @@ func TestCommitsAreSortedParentsFirst(t *testing.T) {
 			}
 		}
 	}
+}
+
+// noBase is a tenant without objects.
+type noBase struct{}
+
+func (noBase) Object(context.Context, tenants.Name) (tenants.Object, error) {
+	return tenants.Object{}, tenants.ErrMissing
+}
+
+// packOfTags is a pack of so many tags, each with a message of so many bytes, which deflate to nearly nothing.
+func packOfTags(count, bytesOfEach int) []byte {
+	var to, entry bytes.Buffer
+	w := pack.NewWriter(&to)
+	_ = w.Begin(count)
+	for at := 0; at < count; at++ {
+		text := fmt.Sprintf("object %s\ntype commit\ntag v%d\n\n%s", ones, at, strings.Repeat("m", bytesOfEach))
+		entry.Reset()
+		entry.Write(binary.AppendUvarint([]byte{byte(tenants.Tag)<<4 | byte(len(text)&15) | 0x80}, uint64(len(text)>>4)))
+		deflater := zlib.NewWriter(&entry)
+		_, _ = deflater.Write([]byte(text))
+		_ = deflater.Close()
+		_ = w.Entries(entry.Bytes())
+	}
+	_ = w.Finish()
+	return to.Bytes()
+}
+
+// TestTagsAreNotHeldInMemory has a pack of a hundred kilobytes with tags of 96 MiB.
+func TestTagsAreNotHeldInMemory(t *testing.T) {
+	const count, each = 24, 4 << 20
+	q, err := pack.NewQuarantine(t.TempDir(), noBase{}, pack.Usual)
+	if err != nil {
+		t.Fatal(err)
+	}
+	defer q.Close()
+	if err := q.Read(context.Background(), bytes.NewReader(packOfTags(count, each))); err != nil {
+		t.Fatal(err)
+	}
+	p := &push{own: q, tags: map[tenants.Name]*objects.Tag{}}
+	before := held()
+	if err := p.examineTags(context.Background()); err != nil || len(p.tags) != count {
+		t.Fatal(len(p.tags), err)
+	}
+	if more := int64(held()) - int64(before); more > each*4 {
+		t.Fatalf("%d tags of %d bytes are held in %d bytes", count, each, more)
+	}
+	runtime.KeepAlive(p)
+}
+
+// held is how many bytes of memory are in use.
+func held() uint64 {
+	var memory runtime.MemStats
+	runtime.GC()
+	runtime.ReadMemStats(&memory)
+	return memory.HeapAlloc
 }
 
 func tree(entries ...string) (contents []byte) {

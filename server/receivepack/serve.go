@@ -66,7 +66,7 @@ type push struct {
 	t     tenants.Tenant
 	own   *pack.Quarantine
 	heads map[tenants.Name]objects.Head // of the commits in the pack
-	tags  map[tenants.Name]*objects.Tag // in the pack, or held by a ref of this push
+	tags  map[tenants.Name]*objects.Tag // in the pack, or held by a ref of this push; without their taggers and messages
 	bad   map[string]string             // why a ref does not change
 	head  string                        // what HEAD is to name, or nothing
 	refs  tenants.Refs                  // as they are to be

@@ -204,6 +204,37 @@ def fill_and_judge(room: ServerRoom) -> None:
     room.is_sound(room.path("full"))
 
 
+@over_http
+def a_read_only_journal(room: ServerRoom) -> None:
+    """Makes the folder of the journal read-only: a save fails and is told, a start is refused, and what was told lasts."""
+    site = room.pushed()
+    folder = os.path.join(room.served, "journal")
+    if subprocess.run(["mount", "--bind", folder, folder], capture_output=True).returncode:
+        return
+    try:
+        subprocess.run(["mount", "-o", "remount,ro,bind", folder], check=True)
+        push_and_restart_read_only(room, site)
+    finally:
+        wait_for(lambda: subprocess.run(["umount", folder], capture_output=True).returncode == 0)
+    room.start()
+    room.same(site)
+    assert room.run([room.server_program, "save", room.served]).returncode == 0
+    room.same(site)
+
+
+def push_and_restart_read_only(room: ServerRoom, site: str) -> None:
+    """Pushes to the segment that the server has open, and starts another server, which cannot open it."""
+    assert room.run([room.server_program, "save", room.served]).returncode == 1
+    assert "the pool is not saved: " in room.logged() and "read-only file system; the journal has all of it" in room.logged()
+    room.commit(site, "After it", {"f": "x"})
+    room.git(site, "push", "-q", "pool", "main")
+    crashed(room)
+    before = journal_of(room)
+    done = room.run([room.server_program, "serve", room.served, "--program", room.program])
+    assert done.returncode == 4 and "read-only file system" in text(done.stderr), (done.returncode, text(done.stderr))
+    assert journal_of(room) == before
+
+
 def crashed(room: ServerRoom) -> str:
     """Ends the server by signal 9, and gives the path of the journal's last segment."""
     room.process.kill()

@@ -70,7 +70,7 @@ func (f *fetch) serveFirst(ctx context.Context, reader *pktline.Reader, isStatel
 			return err
 		}
 	}
-	n := negotiation{fetch: f, isDetailed: f.can["multi_ack_detailed"], isMulti: f.can["multi_ack_detailed"] || f.can["multi_ack"]}
+	n := negotiation{fetch: f, isCommon: map[tenants.Name]bool{}, isDetailed: f.can["multi_ack_detailed"], isMulti: f.can["multi_ack_detailed"] || f.can["multi_ack"]}
 	goesOn, err := n.run(ctx, reader, isStateless)
 	if err != nil {
 		return say(f.out, err)
@@ -87,8 +87,10 @@ type negotiation struct {
 	*fetch
 	isDetailed, isMulti bool
 	last                tenants.Name
-	hasCommon           bool // in all
-	gotCommon, gotOther bool // since the last flush
+	isCommon            map[tenants.Name]bool // the names of `common`
+	hasCommon           bool                  // in all
+	gotCommon, gotOther bool                  // since the last flush
+	askedAt             int                   // how many names were common when it was last asked whether these are enough
 	sentReady           bool
 }
 
@@ -148,7 +150,12 @@ func (n *negotiation) take(ctx context.Context) error {
 		n.acknowledge(name)
 	}
 	commits, err := commitsOf(ctx, n.t, found)
-	n.common = distinct(append(n.common, commits...))
+	for _, name := range commits {
+		if !n.isCommon[name] {
+			n.isCommon[name] = true
+			n.common = append(n.common, name)
+		}
+	}
 	return err
 }
 
@@ -167,7 +174,8 @@ func (n *negotiation) acknowledge(name tenants.Name) {
 
 // flush answers the end of a round, and tells whether the pack follows at once.
 func (n *negotiation) flush(ctx context.Context) (isLast bool, err error) {
-	if n.isDetailed && (n.gotCommon || n.gotOther) && !n.sentReady {
+	if n.isDetailed && (n.gotCommon || n.gotOther) && !n.sentReady && n.isWorthAsking() {
+		n.askedAt = len(n.common)
 		if n.sentReady, err = n.isReady(ctx); err != nil {
 			return false, err
 		}
@@ -184,6 +192,12 @@ func (n *negotiation) flush(ctx context.Context) (isLast bool, err error) {
 	}
 	n.gotCommon, n.gotOther = false, false
 	return false, n.out.Flush()
+}
+
+// isWorthAsking tells whether so much has become common since the last time that it may be enough now. The question takes as long as there is
+// much in common, so a client that adds a name in each round would make it a square.
+func (n *negotiation) isWorthAsking() bool {
+	return len(n.common) > n.askedAt+n.askedAt/8
 }
 
 // done answers the end of the negotiation.

@@ -72,9 +72,15 @@ func (q *request) name(word, value string) error {
 	return nil
 }
 
+// mostCapabilities is more than there are.
+const mostCapabilities = 64
+
 // TakeCapabilities notes the capabilities that a client asks for.
 func TakeCapabilities(words string, into map[string]bool) error {
 	for _, word := range strings.Fields(words) {
+		if len(into) == mostCapabilities {
+			return refused("a request asks for more than %d capabilities", mostCapabilities)
+		}
 		if format := strings.TrimPrefix(word, "object-format="); format != word && format != "sha1" {
 			return refused("this server has objects of sha1 alone, and no %s", pktline.Show([]byte(format)))
 		}
@@ -172,21 +178,31 @@ func (q *request) expand(ctx context.Context, t Repository) error {
 	if err != nil {
 		return err
 	}
+	byName := make(map[string]tenants.Name, len(refs))
+	for _, ref := range refs {
+		byName[ref.Name] = ref.Target
+	}
 	var targets []tenants.Name
 	for _, name := range q.notRefs {
-		target, count := tenants.Name{}, 0
-		for _, front := range []string{"", "refs/", "refs/tags/", "refs/heads/", "refs/remotes/"} {
-			if found, is := targetOf(refs, front+name); is {
-				target, count = found, count+1
-			}
-		}
-		if count != 1 {
+		target, isOne := named(byName, name)
+		if !isOne {
 			return refused("git upload-pack: ambiguous deepen-not: %s", pktline.Show([]byte(name)))
 		}
 		targets = append(targets, target)
 	}
-	q.deepening.Not, err = commitsOf(ctx, t, targets)
+	q.deepening.Not, err = commitsOf(ctx, t, distinct(targets))
 	return err
+}
+
+// named finds the one ref that a user calls so.
+func named(refs map[string]tenants.Name, name string) (target tenants.Name, isOne bool) {
+	count := 0
+	for _, front := range []string{"", "refs/", "refs/tags/", "refs/heads/", "refs/remotes/"} {
+		if found, is := refs[front+name]; is {
+			target, count = found, count+1
+		}
+	}
+	return target, count == 1
 }
 
 // say tells the client why it is refused, where its protocol has room for that, and gives the error back.

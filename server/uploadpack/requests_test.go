@@ -7,8 +7,11 @@ import (
 	"context"
 	"encoding/binary"
 	"fmt"
+	"runtime"
 	"strings"
+	"syscall"
 	"testing"
+	"time"
 
 	"gitpoold/objects"
 	"gitpoold/pack"
@@ -265,6 +268,110 @@ func TestPrefixesAreLookedUpOnce(t *testing.T) {
 	if got := len(l.selected(refs)); got != 101 {
 		t.Fatalf("%d refs", got)
 	}
+}
+
+// TestCapabilitiesAreFew has a want with thousands of words, each of which would take many times its own size of memory.
+func TestCapabilitiesAreFew(t *testing.T) {
+	m, commits := smallRepository()
+	words := ""
+	for at := 0; at < 5000; at++ {
+		words += fmt.Sprintf(" c%d", at)
+	}
+	answer := string(serve(m, 0, lines(fmt.Sprintf("want %v%s\n", commits[4], words), "", "done\n")))
+	if !strings.Contains(answer, "ERR a request asks for more than 64 capabilities") {
+		t.Fatalf("%.200q", answer)
+	}
+}
+
+// longRepository has a history of so many commits, the oldest first.
+func longRepository(count int) (*memoryRepository, []tenants.Name) {
+	m := &memoryRepository{objects: map[tenants.Name]tenants.Object{}, head: "refs/heads/main"}
+	tree := m.add(tenants.Tree, "")
+	var commits []tenants.Name
+	parent := ""
+	for at := 0; at < count; at++ {
+		who := fmt.Sprintf("A <a@b> %d +0000", 1000+at)
+		commits = append(commits, m.add(tenants.Commit, fmt.Sprintf("tree %v\n%sauthor %s\ncommitter %s\n\nm\n", tree, parent, who, who)))
+		parent = fmt.Sprintf("parent %v\n", commits[at])
+	}
+	m.refs = []tenants.Ref{{Name: "refs/heads/main", Target: commits[count-1]}}
+	return m, commits
+}
+
+// allocated is how many bytes of memory a call takes, whether or not it gives them back.
+func allocated(call func()) uint64 {
+	var before, after runtime.MemStats
+	runtime.ReadMemStats(&before)
+	call()
+	runtime.ReadMemStats(&after)
+	return after.TotalAlloc - before.TotalAlloc
+}
+
+// TestRoundsOfANegotiationAddUp has a client that tells one commit in each of 2,000 rounds, and wants one that is on no way to any of them. It
+// may not cost a round more the more rounds there were before.
+func TestRoundsOfANegotiationAddUp(t *testing.T) {
+	m, commits := longRepository(2000)
+	who := "A <a@b> 5000 +0000"
+	apart := m.add(tenants.Commit, fmt.Sprintf("tree %v\nauthor %s\ncommitter %s\n\nm\n", m.add(tenants.Tree, ""), who, who))
+	request := lines(fmt.Sprintf("want %v multi_ack_detailed\n", apart), "")
+	for _, name := range commits {
+		request = append(request, lines(fmt.Sprintf("have %v\n", name), "")...)
+	}
+	var out bytes.Buffer
+	took := allocated(func() {
+		_ = Server{}.Serve(context.Background(), m, bufio.NewReader(bytes.NewReader(request)), pktline.NewWriter(&out), 0, false)
+	})
+	if acknowledged := strings.Count(out.String(), " common"); acknowledged != len(commits) {
+		t.Fatalf("%d of %d commits were acknowledged", acknowledged, len(commits))
+	}
+	if took > 64<<20 {
+		t.Fatalf("2,000 rounds took %d MB", took>>20)
+	}
+}
+
+// TestManyWantsWalkOneWay wants each commit of a history by itself, and has its oldest one.
+func TestManyWantsWalkOneWay(t *testing.T) {
+	m, commits := longRepository(3000)
+	request := lines(fmt.Sprintf("want %v multi_ack_detailed\n", commits[1]))
+	for at := len(commits) - 1; at > 1; at-- {
+		request = append(request, lines(fmt.Sprintf("want %v\n", commits[at]))...)
+	}
+	request = append(request, lines("", fmt.Sprintf("have %v\n", commits[0]), "")...)
+	var answer []byte
+	took := allocated(func() { answer = serve(m, 0, request) })
+	if !bytes.Contains(answer, []byte(" ready\n")) {
+		t.Fatalf("%.200q", answer)
+	}
+	if took > 64<<20 {
+		t.Fatalf("3,000 wants took %d MB", took>>20)
+	}
+}
+
+// TestNamesOfDeepenNotAreLookedUp has one name again and again, and many refs.
+func TestNamesOfDeepenNotAreLookedUp(t *testing.T) {
+	m, commits := smallRepository()
+	for at := 0; at < 40_000; at++ {
+		m.refs = append(m.refs, tenants.Ref{Name: fmt.Sprintf("refs/tags/x%05d", at), Target: commits[0]})
+	}
+	request := lines("command=fetch\n", "|", fmt.Sprintf("want %v\n", commits[4]))
+	for at := 0; at < 40_000; at++ {
+		request = append(request, lines("deepen-not x39999\n")...)
+	}
+	began := worked()
+	answer := serve(m, 2, append(request, lines("done\n", "")...))
+	if !bytes.Contains(answer, []byte("packfile")) {
+		t.Fatalf("%.200q", answer)
+	}
+	if took := worked() - began; took > 5*time.Second {
+		t.Fatalf("it took %v of a processor", took)
+	}
+}
+
+// worked is for how long processors have worked for this process, whatever else they do.
+func worked() time.Duration {
+	var usage syscall.Rusage
+	_ = syscall.Getrusage(syscall.RUSAGE_SELF, &usage)
+	return time.Duration(usage.Utime.Nano())
 }
 
 func FuzzRequests(f *testing.F) {

@@ -41,6 +41,7 @@ type History struct {
 	cuts    map[tenants.Name]bool
 	common  []tenants.Name
 	rounds  int
+	tried   int // commits that walks for ReachesAny came to
 }
 
 // A walk goes to parents one round of questions after another. After so many rounds it asks for the rest of a history at once: in a

@@ -160,27 +160,54 @@ func (h *History) ReachesAny(ctx context.Context, wants, haves []tenants.Name) (
 	return true, nil
 }
 
-const mostTried = 50_000
+// A walk takes too long where it comes to so many commits for one want, or for all.
+const (
+	mostTried      = 50_000
+	mostTriedInAll = 1_000_000
+)
 
+// reaches tells whether a want reaches a have. The commits on the way that it found count as haves from then on, so that the next want need
+// not go that way to its end.
 func (h *History) reaches(ctx context.Context, want tenants.Name, isHave map[tenants.Name]bool, oldest int64) (bool, error) {
-	seen := map[tenants.Name]bool{want: true}
+	from := map[tenants.Name]tenants.Name{want: want}
 	wave := []tenants.Name{want}
-	for len(wave) > 0 && len(seen) < mostTried {
+	for len(wave) > 0 && len(from) < mostTried && h.tried < mostTriedInAll {
 		if err := h.Load(ctx, wave); err != nil {
 			return false, err
 		}
+		h.tried += len(wave)
 		var after []tenants.Name
 		for _, name := range wave {
 			if isHave[name] {
+				markWay(isHave, from, name)
 				return true, nil
 			}
 			if h.commits[name].Time >= oldest {
-				after = append(after, unseen(h.parents(name), seen)...)
+				after = append(after, h.ahead(name, from)...)
 			}
 		}
 		wave = after
 	}
 	return false, nil
+}
+
+// ahead gives the parents of a commit that the walk has not come to, and notes that it comes to them from there.
+func (h *History) ahead(name tenants.Name, from map[tenants.Name]tenants.Name) (fresh []tenants.Name) {
+	for _, parent := range h.parents(name) {
+		if _, isSeen := from[parent]; !isSeen {
+			from[parent] = name
+			fresh = append(fresh, parent)
+		}
+	}
+	return fresh
+}
+
+// markWay marks the commits on the way to one.
+func markWay(marked map[tenants.Name]bool, from map[tenants.Name]tenants.Name, to tenants.Name) {
+	for from[to] != to {
+		to = from[to]
+		marked[to] = true
+	}
 }
 
 // unseen gives the names that were not seen, and marks them.

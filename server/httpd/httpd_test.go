@@ -1,0 +1,63 @@
+package httpd
+
+import (
+	"context"
+	"fmt"
+	"io"
+	"net"
+	"path/filepath"
+	"testing"
+	"time"
+
+	"gitpoold/limits"
+	"gitpoold/logs"
+	"gitpoold/metrics"
+	"gitpoold/site"
+)
+
+// served gives the address of a server whose requests may take a second in all.
+func served(t *testing.T) string {
+	t.Helper()
+	folder := t.TempDir()
+	if err := limits.Set(filepath.Join(folder, "limits"), "request", "1s"); err != nil {
+		t.Fatal(err)
+	}
+	l, err := limits.Load(folder, t.Logf)
+	if err != nil {
+		t.Fatal(err)
+	}
+	listener, err := net.Listen("tcp", "127.0.0.1:0")
+	if err != nil {
+		t.Fatal(err)
+	}
+	ctx, stop := context.WithCancel(context.Background())
+	t.Cleanup(stop)
+	go func() { _ = Serve(ctx, listener, &site.Site{Limits: l, Log: logs.New(io.Discard, metrics.New())}) }()
+	return listener.Addr().String()
+}
+
+// TestARefusedRequestTakesNoLongerThanAnother sends the body of a request that is refused, a byte at a time and never silent for long.
+func TestARefusedRequestTakesNoLongerThanAnother(t *testing.T) {
+	c, err := net.Dial("tcp", served(t))
+	if err != nil {
+		t.Fatal(err)
+	}
+	defer c.Close()
+	fmt.Fprintf(c, "POST /a/HEAD HTTP/1.1\r\nHost: a\r\nContent-Length: 100000\r\n\r\n")
+	ended := make(chan struct{})
+	go func() {
+		_, _ = io.Copy(io.Discard, c)
+		close(ended)
+	}()
+	late := time.After(20 * time.Second)
+	for {
+		select {
+		case <-ended:
+			return
+		case <-late:
+			t.Fatal("the connection is open still")
+		case <-time.After(20 * time.Millisecond):
+			_, _ = c.Write([]byte("x"))
+		}
+	}
+}
