@@ -77,8 +77,11 @@ func (r *Redis) putAndWait(conn redis.Conn, behind mark, batch []queued) error {
 	}
 	within := r.options.tryWithin()
 	count, err := redis.Int(redis.DoWithTimeout(conn, 2*within, "WAIT", r.options.Replicas, within.Milliseconds()))
-	if err != nil || count < r.options.Replicas {
-		return fmt.Errorf("%w: %d (%v)", errFewReplicas, count, err)
+	if err != nil {
+		return fmt.Errorf("%w: %v", errFewReplicas, err)
+	}
+	if count < r.options.Replicas {
+		return fmt.Errorf("%w: %d of %d", errFewReplicas, count, r.options.Replicas)
 	}
 	return nil
 }
