@@ -102,6 +102,11 @@ def ancestors(path: str) -> List[bytes]:
     return [b"%s~%d" % (names[at], draw.randrange(len(names) - at)) for at in starts]
 
 
+def history(path: str) -> List[bytes]:
+    """The commits of the branch, from the tip on."""
+    return git(path, "rev-list", BRANCH.decode())[0].split()
+
+
 def ranges() -> List[bytes]:
     """Ranges of twenty commits each along the branch, from the tip to its middle."""
     step = max(20, commits // 2 // RANGES)
@@ -155,6 +160,7 @@ def main() -> None:
             "cat": ([b"cat " + it for it in objects], ["cat-file", "--batch"], lines(objects)),
             "rev-parse": ([b"rev-parse " + it for it in places], ["cat-file", "--batch-check=%(objectname)"], lines(places)),
             "ancestors": ([b"rev-parse " + it for it in back], ["cat-file", "--batch-check=%(objectname)"], lines(back)),
+            "abbrev": ([b"abbrev " + it for it in history(path)], ["log", "--format=%h", "--abbrev=4", BRANCH.decode()], b""),
             "log": ([b"log " + BRANCH], ["log", "--format=%H %s", BRANCH.decode()], b""),
             "export": ([b"export"], ["fast-export", "--all"], b""),
         }

@@ -17,18 +17,23 @@ use Rattle.tenant_tables.specs.Abbreviation.{begins}
 
 -- ---- one digit
 
-same_test : (x y : ℕ) → x ≡ y → nat_eq x y ≡ true
+pub same_test : (x y : ℕ) → x ≡ y → nat_eq x y ≡ true
 same_test x y same = grind (arith, nat_tests)
 
-other_test : (x y : ℕ) → x ≢ y → nat_eq x y ≡ false
+pub other_test : (x y : ℕ) → x ≢ y → nat_eq x y ≡ false
 other_test x y other = grind (arith, nat_tests)
+
+-- of a table that reads back, the digit at a place has the value of the place
+pub digit_value : (t : List ℕ) → IsDigits t → (k j : ℕ) → k < 16
+    → option_eq nat_eq (hex_digit_value (slice_index t k)) (Some j) ≡ nat_eq k j
+digit_value t digits k j low =
+    ap (λ (value : Option ℕ). option_eq nat_eq value (Some j)) (digits k low)
 
 -- of a table that reads back, a digit has the value of a place where it is the digit at that place
 one_digit : (t : List ℕ) → IsDigits t → (k j : ℕ) → k < 16 → j < 16
     → option_eq nat_eq (hex_digit_value (slice_index t k)) (Some j)
     ≡ nat_eq (slice_index t k) (slice_index t j)
-one_digit t digits k j low_k low_j =
-    ap (λ (value : Option ℕ). option_eq nat_eq value (Some j)) (digits k low_k) ∙ by (cases_eq k j)
+one_digit t digits k j low_k low_j = digit_value t digits k j low_k ∙ by (cases_eq k j)
   where
     apart : k ≢ j → slice_index t k ≢ slice_index t j
     apart other same =
@@ -45,7 +50,7 @@ one_digit t digits k j low_k low_j =
 
 -- ---- the digits of a name
 
-both : (a b c d e f : Bool) → a ≡ b → c ≡ d → e ≡ f → (a && (c && e)) ≡ (b && (d && f))
+pub both : (a b c d e f : Bool) → a ≡ b → c ≡ d → e ≡ f → (a && (c && e)) ≡ (b && (d && f))
 both a b c d e f h i j = rw (h, i, j) refl
 
 -- the first digits of one text of bytes begin another where they are its prefix

@@ -1,92 +1,118 @@
 -- The shortest prefix of a name that begins no other.
-use Rattle.std.proofs.Common.{inl, inr, ◌≡◌, ◌≢◌, ℕ, zero, suc, ◌+◌, ◌<◌, ◌≤◌, Bool, true, false, not, ◌&&◌, ◌||◌, List, [], ◌∷◌, length, map, filter, unwrap_or, find, refl, sym, ap, ◌∙◌, arith}
-use Rattle.std.specs.Prelude.{AllPairs}
-use Rattle.std.specs.List.{list_all, range_with_len}
+use Rattle.std.proofs.Common.{inl, inr, ◌≡◌, ◌≢◌, ◌⊎◌, ℕ, zero, suc, ◌+◌, ◌*◌, ◌/◌, ◌%◌, ◌<◌, ◌≤◌, min, max, Bool, true, false, not, ◌&&◌, ◌||◌, if◌then◌else◌, List, [], ◌∷◌, length, map, take, unwrap_or, find, nat_eq, nat_lt, refl, sym, ap, ap₂, ◌∙◌, arith}
+use Rattle.std.specs.Prelude.{◌==◌, All, nat_le}
+use Rattle.std.specs.List.{range_with_len}
 use Rattle.std.specs.Str.{bytes_eq}
-use Rattle.std.proofs.lemmas.Bool.{cases_eq}
-use Rattle.std.proofs.lemmas.Slice.Eq.{bytes_eq-Decides}
-use Rattle.std.proofs.lemmas.List.{get_or-map, length-map}
-use Rattle.std.proofs.lemmas.List.Folds.{list_all-map}
-use Rattle.std.proofs.lemmas.List.Kept.{AllPairs-filter}
+use Rattle.std.proofs.lemmas.Bool.{cases_eq, cases_lt}
+use Rattle.std.proofs.lemmas.Bool.Decides.{nat_tests}
+use Rattle.std.proofs.lemmas.List.{take_all}
+use Rattle.std.proofs.lemmas.List.Elements.{All-head, All-tail}
+use Rattle.hex.specs.Hex.{encode_lower, encode_with, lower_digits}
+use Rattle.hex.proofs.HexLemmas.{IsDigits, IsDigits-lower_digits}
+use Rattle.git_model.specs.ObjectName.{IsObjectName}
 use Rattle.git_model.specs.Repository.{Object}
-use Rattle.git_model.specs.References.{no_object, object_at, place_of}
-use Rattle.git_model.specs.GoodRepository.{AreObjects}
-use Rattle.tenant_tables.specs.declared.found.Found.{Found}
-use Rattle.tenant_tables.specs.declared.found.Found.TheVariants as found
-use Rattle.tenant_tables.specs.Abbreviation.{begins, found_among, only_of}
-use Rattle.answers.specs.Printed.{begins_no_other}
+use Rattle.name_index.specs.Index.{most_shared, shared_apart, shared_digits}
+use Rattle.tenant_tables.specs.Abbreviation.{begins}
+use Rattle.answers.specs.Printed.{begins_no_other, shortest_prefix}
+use Rattle.answers.proofs.NameDigits.{both, digit_value, length_of_digits, other_test, same_test}
 
 -- ---- what digits begin
 
-abbrev pub begins_none_but : List ℕ → Found → Bool
-begins_none_but id found.None = true
-begins_none_but id (found.One other) = bytes_eq other id
-begins_none_but id found.Many = false
+and_false : (b : Bool) → (b && false) ≡ false
+and_false true = refl
+and_false false = refl
 
-and_true : (b : Bool) → (b && true) ≡ b
-and_true true = refl
-and_true false = refl
-
-or_true : (b : Bool) → (b || true) ≡ true
-or_true true = refl
-or_true false = refl
-
-or_false : (b : Bool) → (b || false) ≡ b
-or_false true = refl
-or_false false = refl
-
--- only the names that the digits begin matter
-filtered : (id digits : List ℕ) (ids : List (List ℕ))
-    → list_all (λ x. bytes_eq x id || not (begins digits x)) ids
-    ≡ list_all (λ x. bytes_eq x id) (filter (begins digits) ids)
-filtered id digits [] = refl
-filtered id digits (x ∷ ids) = by (filtered id digits ids) (begins digits x) refl
+-- at one byte
+byte_begun : (b c n s : ℕ) (rest : Bool) → rest ≡ nat_le n s
+    → (nat_eq (b / 16) (c / 16) && (nat_eq (b % 16) (c % 16) && rest))
+    ≡ nat_le (suc (suc n)) (if b == c then 2 + s else if b / 16 == c / 16 then 1 else 0)
+byte_begun b c n s rest is = elim (cases_eq b c) [
+  | inl same ↦
+      rw (same_test b c same, same_test (b / 16) (c / 16) (ap (λ (x : ℕ). x / 16) same), same_test (b % 16) (c % 16) (ap (λ (x : ℕ). x % 16) same))
+      (is ∙ more)
+  | inr other ↦ rw (other_test b c other) (apart other (cases_eq (b / 16) (c / 16)))
+]
   where
-    by : list_all (λ x. bytes_eq x id || not (begins digits x)) ids
-        ≡ list_all (λ x. bytes_eq x id) (filter (begins digits) ids) → (b : Bool) → begins digits x ≡ b
-        → list_all (λ x. bytes_eq x id || not (begins digits x)) (x ∷ ids)
-        ≡ list_all (λ x. bytes_eq x id) (filter (begins digits) (x ∷ ids))
-    by rest true e = rw (e, or_false (bytes_eq x id)) (ap (λ b. bytes_eq x id && b) rest)
-    by rest false e = rw (e, or_true (bytes_eq x id)) rest
+    more : nat_le n s ≡ nat_le (suc (suc n)) (2 + s)
+    more = grind (arith, nat_tests)
 
-both_no : (a b : List ℕ) (id : List ℕ) (more : Bool) → a ≢ b → (bytes_eq a id && (bytes_eq b id && more)) ≡ false
-both_no a b id more other = by (bytes_eq a id) (bytes_eq b id) refl refl
+    few : (t : Bool) → false ≡ nat_le (suc (suc n)) (if t then 1 else 0)
+    few true = grind (arith, nat_tests)
+    few false = grind (arith, nat_tests)
+
+    apart : b ≢ c → (b / 16 ≡ c / 16) ⊎ (b / 16 ≢ c / 16)
+        → (nat_eq (b / 16) (c / 16) && (nat_eq (b % 16) (c % 16) && rest))
+        ≡ nat_le (suc (suc n)) (if b / 16 == c / 16 then 1 else 0)
+    apart other (inl high) =
+        rw (other_test (b % 16) (c % 16) (λ low. other (omega arith))) (and_false _ ∙ few _)
+    apart other (inr high) = rw (other_test (b / 16) (c / 16) high) (few false)
+
+one_begun : (b c s : ℕ)
+    → (nat_eq (b / 16) (c / 16) && true)
+    ≡ nat_le 1 (if b == c then 2 + s else if b / 16 == c / 16 then 1 else 0)
+one_begun b c s = elim (cases_eq b c) [
+  | inl same ↦
+      rw (same_test b c same, same_test (b / 16) (c / 16) (ap (λ (x : ℕ). x / 16) same)) many
+  | inr other ↦ rw (other_test b c other) (by (nat_eq (b / 16) (c / 16)))
+]
   where
-    by : (x y : Bool) → bytes_eq a id ≡ x → bytes_eq b id ≡ y
-        → (bytes_eq a id && (bytes_eq b id && more)) ≡ false
-    by true true e f =
-        absurd (other ((bytes_eq-Decides a id).0 e ∙ sym ((bytes_eq-Decides b id).0 f)))
-    by true false e f = rw (e, f) refl
-    by false y e f = rw e refl
+    many : true ≡ nat_le 1 (2 + s)
+    many = grind (arith, nat_tests)
 
-told : (id : List ℕ) (ids : List (List ℕ)) → AllPairs (λ a b. a ≢ b) ids
-    → begins_none_but id (only_of ids) ≡ list_all (λ x. bytes_eq x id) ids
-told id [] apart = refl
-told id (a ∷ []) apart = sym (and_true (bytes_eq a id))
-told id (a ∷ b ∷ more) apart = sym (both_no a b id _ (apart 0 1 a (omega arith) (omega arith)))
+    by : (t : Bool) → (t && true) ≡ nat_le 1 (if t then 1 else 0)
+    by true = grind (arith, nat_tests)
+    by false = grind (arith, nat_tests)
 
-distinct_names : (digest : List ℕ → List ℕ) (os : List Object) → AreObjects digest os
-    → AllPairs (λ a b. a ≢ b) (map (λ o. o.id) os)
-unfolding object_at
-distinct_names digest os good i j d less within same =
-    let end : j < length os = omega (arith, length-map os (λ (o : Object). o.id)) in
-    let at = λ (k : ℕ) (in_os : k < length os). get_or-map (λ (o : Object). o.id) os k no_object d in_os in
-    let one : (object_at i os).id ≡ (object_at j os).id =
-    sym (at i (omega arith)) ∙ same ∙ at j end in
-    let places : i ≡ j = sym (good.distinct i (omega arith))
-    ∙ ap (λ (id : List ℕ). place_of id os) one ∙ good.distinct j end in
-    absurd (omega (arith, places))
+-- the first digits of a name begin another that shares as many
+digits_begin : (t : List ℕ) → IsDigits t → (p q : List ℕ) (n : ℕ) → length p ≡ length q
+    → n ≤ 2 * length p → All (λ byte. byte < 256) p → All (λ byte. byte < 256) q
+    → begins (take n (encode_with t p)) q ≡ nat_le n (shared_digits p q)
+unfolding begins encode_with
+digits_begin t digits p q zero size le of_p of_q = grind (arith, nat_tests)
+digits_begin t digits [] q (suc n) size le of_p of_q = absurd (omega arith)
+digits_begin t digits (b ∷ p) [] (suc n) size le of_p of_q = absurd (omega arith)
+digits_begin t digits (b ∷ p) (c ∷ q) (suc zero) size le of_p of_q =
+    let fits_b : b < 256 = All-head (λ byte. byte < 256) b p of_p in
+    let fits_c : c < 256 = All-head (λ byte. byte < 256) c q of_q in
+    ap (λ (test : Bool). test && true) (digit_value t digits (b / 16) (c / 16) (omega arith))
+    ∙ one_begun b c _
+digits_begin t digits (b ∷ p) (c ∷ q) (suc (suc n)) size le of_p of_q =
+    let fits_b : b < 256 = All-head (λ byte. byte < 256) b p of_p in
+    let fits_c : c < 256 = All-head (λ byte. byte < 256) c q of_q in
+    both _ _ _ _ _ _ (digit_value t digits (b / 16) (c / 16) (omega arith))
+    (digit_value t digits (b % 16) (c % 16) (omega arith)) refl
+    ∙ byte_begun b c n _ _
+    (digits_begin t digits p q n (omega arith) (omega arith) (All-tail (λ byte. byte < 256) b p of_p)
+    (All-tail (λ byte. byte < 256) c q of_q))
 
-pub prefix_told : (digest : List ℕ → List ℕ) (os : List Object) (id digits : List ℕ)
-    → AreObjects digest os → (f : Found) → f ≡ found_among digits (map (λ o. o.id) os)
-    → begins_none_but id f ≡ begins_no_other os id digits
-prefix_told digest os id digits good f e =
-    let ids = map (λ (o : Object). o.id) os in
-    ap (begins_none_but id) e
-    ∙ told id (filter (begins digits) ids)
-    (AllPairs-filter (λ a b. a ≢ b) (begins digits) ids (distinct_names digest os good))
-    ∙ sym (filtered id digits ids)
-    ∙ list_all-map (λ x. bytes_eq x id || not (begins digits x)) (λ (o : Object). o.id) os
+one_apart : (id other : List ℕ) (n : ℕ) → IsObjectName id → IsObjectName other → 1 ≤ n → n ≤ 40
+    → (bytes_eq other id || not (begins (take n (encode_lower id)) other))
+    ≡ nat_lt (shared_apart id other) n
+one_apart id other n is is_other some le =
+    let size = is.size in
+    let size_too = is_other.size in
+    by (bytes_eq other id) (begins (take n (encode_lower id)) other)
+    (digits_begin lower_digits IsDigits-lower_digits id other n (omega arith) (omega arith) is.bytes is_other.bytes)
+  where
+    by : (same begun : Bool) → begun ≡ nat_le n (shared_digits id other)
+        → (same || not begun) ≡ nat_lt (if same then 0 else shared_digits id other) n
+    by true begun e = grind (arith, nat_tests)
+    by false begun e = grind (arith, nat_tests)
+
+both_below : (a b n : ℕ) → (nat_lt a n && nat_lt b n) ≡ nat_lt (max a b) n
+both_below a b n = grind (arith, nat_tests)
+
+-- digits begin no other name where they are more than any other shares
+pub shared_by_none : (os : List Object) (id : List ℕ) (n : ℕ) → All (λ o. IsObjectName o.id) os
+    → IsObjectName id → 1 ≤ n → n ≤ 40
+    → begins_no_other os id (take n (encode_lower id))
+    ≡ nat_lt (most_shared id (map (λ o. o.id) os)) n
+shared_by_none [] id n are is some le = grind (arith, nat_tests)
+shared_by_none (o ∷ os) id n are is some le =
+    ap₂ (λ (a b : Bool). a && b)
+    (one_apart id o.id n is (All-head (λ (x : Object). IsObjectName x.id) o os are) some le)
+    (shared_by_none os id n (All-tail (λ (x : Object). IsObjectName x.id) o os are) is some le)
+    ∙ both_below (shared_apart id o.id) (most_shared id (map (λ (x : Object). x.id) os)) n
 
 -- ---- the first that passes
 
@@ -133,3 +159,38 @@ last_passing {X} p f none from len fails last = by (p (f (from + len))) refl
       | inl same ↦ ap (λ n. p (f n)) same ∙ e
       | inr other ↦ fails n low (omega arith)
     ])
+
+-- ---- the shortest prefix, by the most digits that another shares
+
+pub shortest_by : (os : List Object) (id : List ℕ) (m r : ℕ) → All (λ o. IsObjectName o.id) os
+    → IsObjectName id → m ≡ most_shared id (map (λ o. o.id) os) → r ≡ max 4 (min m 39 + 1)
+    → take r (encode_lower id) ≡ shortest_prefix os id
+unfolding shortest_prefix
+shortest_by os id m r are is most size = by (cases_lt r 40)
+  where
+    told : (n : ℕ) → 4 ≤ n → n ≤ 40
+        → begins_no_other os id (take n (encode_lower id)) ≡ nat_lt m n
+    told n low high =
+        shared_by_none os id n are is (omega arith) high ∙ ap (λ (k : ℕ). nat_lt k n) (sym most)
+
+    fails : (n : ℕ) → 4 ≤ n → n < r → begins_no_other os id (take n (encode_lower id)) ≡ false
+    fails n low below =
+        let le : n ≤ m = omega arith in
+        told n low (omega arith) ∙ grind (arith, nat_tests)
+
+    passes : r < 40 → begins_no_other os id (take r (encode_lower id)) ≡ true
+    passes few =
+        let lt : m < r = omega arith in
+        told r (omega arith) (omega arith) ∙ grind (arith, nat_tests)
+
+    by : (r < 40) ⊎ (40 ≤ r) → take r (encode_lower id) ≡ shortest_prefix os id
+    by (inl few) =
+        sym (first_passing (begins_no_other os id) (λ n. take n (encode_lower id)) (encode_lower id) 4 37 r
+        (omega arith) (omega arith) fails (passes few))
+    by (inr many) =
+        let last : r ≡ 40 = omega arith in
+        let whole : take 40 (encode_lower id) ≡ encode_lower id =
+        take_all 40 (encode_lower id) (omega (arith, length_of_digits id is)) in
+        ap (λ (n : ℕ). take n (encode_lower id)) last ∙ whole
+        ∙ sym (last_passing (begins_no_other os id) (λ n. take n (encode_lower id)) (encode_lower id) 4 36
+        (λ n low high. fails n low (omega arith)) whole)

@@ -141,16 +141,16 @@ module _ (digest : List ℕ → List ℕ) (os : List Object) (good : AreObjects 
       (r.only (place_of id os) marked)))
       (λ e. r.every id above (reaches_parts tip id e))
 
-  pub floor_tells : (tip old : List ℕ) (floor top : ℕ) (flags : List Bool) (answer : Bool)
+  pub place_tells : (tip old : List ℕ) (floor place top : ℕ) (flags : List Bool) (answer : Bool)
       → IsTrue (is_of os kind.Commit tip) → place_of tip os ≡ top → top < length os
-      → place_of old os ≡ floor → floor < length os
-      → IsReached os (object_at top os).id floor flags → is_marked floor flags floor ≡ answer
+      → place_of old os ≡ place → place < length os → floor ≤ place
+      → IsReached os (object_at top os).id floor flags → is_marked floor flags place ≡ answer
       → answer ≡ reaches os tip old
-  floor_tells tip old floor top flags answer commit top_is top_in floor_is floor_in r e =
+  place_tells tip old floor place top flags answer commit top_is top_in place_is place_in above r e =
       let tip_is : (object_at top os).id ≡ tip =
       subst (λ (p : ℕ). (object_at p os).id ≡ tip) top_is (there tip os (omega arith)).id_is in
       let told = mark_tells tip floor flags (rw tip_is at r) commit old (omega arith) (omega arith) in
-      sym e ∙ (rw floor_is at told)
+      sym e ∙ (rw place_is at told)
 
   -- what stands after the tip is not reached
   pub not_after : (tip old : List ℕ) → place_of tip os < place_of old os → reaches os tip old ≡ false
@@ -220,3 +220,8 @@ no_flags os tip none = on os
     on : (xs : List Object) → replicate (length xs) false ≡ map (λ (o : Object). reaches os tip o.id) xs
     on [] = refl
     on (x ∷ xs) = rw (no_tip os tip x.id none) (ap (λ (fs : List Bool). false ∷ fs) (on xs))
+
+-- a flag tells
+pub flag_tells : (floor place : ℕ) (flags : List Bool) (told : Bool) → floor ≤ place
+    → told ≡ get_or flags (place - floor) false → is_marked floor flags place ≡ told
+flag_tells floor place flags told above is = rw is (grind (arith, nat_tests))

@@ -1,6 +1,7 @@
 pub mod Named
 pub mod Flags
 pub mod Walks
+pub mod ParentPlaces
 pub mod Answers
 pub mod CommitsAt
 pub mod Orders

@@ -1,15 +1,18 @@
 //! Walks from a commit to all that it reaches.
 
-ghost use Rattle.std.specs.Prelude.{◌≡◌, ◌+◌, ◌-◌, ◌<◌, ◌≤◌, Bool, List, length, map, replicate, false, IfOk, OnOk};
+ghost use Rattle.std.specs.Prelude.{◌≡◌, ◌+◌, ◌-◌, ◌<◌, ◌≤◌, ℕ, Bool, List, length, map, replicate, false, IfOk, OnOk};
 ghost use Rattle.git_model.specs.References.{object_at, parents_of};
 ghost use Rattle.git_model.specs.GoodRepository.{AreObjects};
 ghost use Rattle.git_model.specs.Reach.{reaches};
 ghost use Rattle.tenant_tables.specs.Objects.{objects};
 ghost use Rattle.tenant_tables.specs.IsBackedBy.{IsBackedBy};
+ghost use Rattle.git_model.specs.Repository.{Object};
 ghost use Rattle.commit_walk.specs.Marks.{is_marked, Marks, IsReached};
+ghost use Rattle.commit_walk.specs.Remembered.{AreParentPlaces};
 
+use crate::ancestry::Ancestry;
 use crate::commits::{commit_place, parents_at};
-use crate::marks::mark_all;
+use crate::marks::{mark_all, mark_places};
 use content_pool::Pool;
 use git_objects::{Memory, Name, Naming};
 use std::alloc::Global;
@@ -33,57 +36,9 @@ pub fn reaches<N: Naming>(
     ensures { let os = objects pool.now table.now.entries in
         AreObjects N.digest_of os → IfOk result (λ yes. yes ≡ reaches os tip.now old.now) }
 {
-    let objects = Objects::of(pool, table, Sight::All);
-    let Some(floor) = commit_place(&objects, old) else {
-        return Ok(false);
-    };
-    let Some(top) = commit_place(&objects, tip) else {
-        return Ok(false);
-    };
-    if top < floor {
-        return Ok(false);
-    }
-    let is_reached = is_floor_reached(alloc, &objects, floor, top)?;
+    let mut ancestry = Ancestry::of(Objects::of(pool, table, Sight::All));
+    let is_reached = ancestry.reaches(alloc, tip, old)?;
     Ok(is_reached)
-}
-
-// Whether the commit at position `floor` is reached from the one at `top`.
-fn is_floor_reached<N: Naming>(
-    alloc: Global,
-    objects: &Objects<'_, N>,
-    floor: usize,
-    top: usize,
-) -> Result<bool, Memory>
-    requires above { floor ≤ top }
-    requires within { top < length objects.now }
-    ensures { AreObjects N.digest_of objects.now → IfOk result (λ yes. (flags : List Bool)
-        × IsReached objects.now (object_at top objects.now).id floor flags
-        × (is_marked floor flags floor ≡ yes)) }
-{
-    let count = objects.len();
-    prove!(top < count);
-    let mut flags = vec![in alloc; false; top - floor + 1]?;
-    let is_reached = walk_to(alloc, objects, floor, top, &mut flags)?;
-    Ok(is_reached)
-}
-
-// Walks, and answers whether the commit at position `floor` was marked.
-fn walk_to<N: Naming>(
-    alloc: Global,
-    objects: &Objects<'_, N>,
-    floor: usize,
-    top: usize,
-    flags: &mut [bool],
-) -> Result<bool, Memory>
-    requires above { floor ≤ top }
-    requires within { top < length objects.now }
-    requires blank { flags.old ≡ replicate (top - floor + 1) false }
-    ensures { AreObjects N.digest_of objects.now → IfOk result (λ yes. (flags : List Bool)
-        × IsReached objects.now (object_at top objects.now).id floor flags
-        × (is_marked floor flags floor ≡ yes)) }
-{
-    walk(alloc, objects, floor, top, flags)?;
-    Ok(flags[0])
 }
 
 /// Which objects are commits that are reachable from the commit `tip`: one flag for each object,
@@ -122,8 +77,9 @@ fn mark_reached<N: Naming>(
     walk(alloc, objects, 0, top, flags)
 }
 
-// Marks all that the commit at position `top` reaches, from position `floor` on.
-fn walk<N: Naming>(
+/// Marks all that the commit at position `top` reaches, from position `floor` on. `Memory` (90) if
+/// there is no room for the parents of a commit.
+pub(crate) fn walk<N: Naming>(
     alloc: Global,
     objects: &Objects<'_, N>,
     floor: usize,
@@ -163,4 +119,24 @@ fn mark_parents<N: Naming>(
     let parents = parents_at(alloc, objects, place)?;
     mark_all(objects, floor, &parents, flags);
     Ok(())
+}
+
+/// The same by the positions of the parents of each object, the oldest first. Takes no memory.
+pub(crate) fn walk_by(parents: &[Vec<usize>], floor: usize, top: usize, flags: &mut [bool])
+    requires above { floor ≤ top }
+    requires within { top < floor + length flags.old }
+    requires there { floor + length flags.old ≤ length parents.now }
+    requires blank { flags.old ≡ replicate (length flags.old) false }
+    ensures { (digest : List ℕ → List ℕ) (os : List Object) → AreObjects digest os
+        → AreParentPlaces os parents.now
+        → IsReached os (object_at top os).id floor flags.new }
+{
+    flags[top - floor] = true;
+    let mut place = top;
+    while place > floor {
+        if flags[place - floor] {
+            mark_places(&parents[place], floor, flags);
+        }
+        place -= 1;
+    }
 }

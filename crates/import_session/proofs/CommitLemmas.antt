@@ -1,5 +1,5 @@
 -- What changes of the open commit, and its message, leave of a workspace.
-use Rattle.std.proofs.Common.{◌≡◌, ◌≢◌, ℕ, List, [], ◌∷◌, Option, None, Some, Result, Ok, Err, refl, sym, ap, subst, rules}
+use Rattle.std.proofs.Common.{◌≡◌, ◌≢◌, ℕ, List, [], ◌∷◌, Option, None, Some, Result, Ok, Err, refl, sym, ap, subst, ◌∙◌, rules}
 use Rattle.std.specs.Prelude.{MatchResult, OnOk}
 use Rattle.git_model.specs.RefStore.{RefStore}
 use Rattle.git_model.specs.Repository.{Object}
@@ -11,12 +11,13 @@ use Rattle.file_maps.specs.Edits.{put_fault}
 use Rattle.file_maps.specs.FileMap.{FileMap}
 use Rattle.file_maps.specs.StoredFiles.{commit_map, stored_files, tree_of_commit}
 use Rattle.kept_files.specs.declared.kept_files.KeptCommit.{KeptCommit}
+use Rattle.kept_files.specs.KeptCommits.{AreBranches}
 use Rattle.open_commits.specs.declared.fault.Fault.{Fault as CommitFault}
 use Rattle.open_commits.specs.declared.fault.Fault.TheVariants as commit_fault
 use Rattle.open_commits.specs.declared.open_commit.OpenCommit.{OpenCommit as LentCommit}
 use Rattle.open_commits.specs.Calls.{Changes}
 use Rattle.open_commits.specs.Parents.{changed_to, started_from}
-use Rattle.open_commits.specs.OpenCommit.{Header, HeldCommit, OpenCommit, begun, begun_on, commit_held, commit_in, shown_in}
+use Rattle.open_commits.specs.OpenCommit.{Header, HeldCommit, OpenCommit, Stands, begun, begun_on, commit_held, commit_in, shown_in}
 use Rattle.stream_parts.specs.declared.fault.Fault.{Fault}
 use Rattle.stream_parts.specs.declared.fault.Fault.TheVariants as fault
 use Rattle.stream_parts.specs.declared.headers.CommitHeader.{CommitHeader}
@@ -27,6 +28,7 @@ use Rattle.stream_parts.specs.Faults.{and_then}
 use Rattle.stream_commands.specs.Faults.{changed_or}
 use Rattle.stream_parts.specs.Branches.{Branches, branch_set, tip_for}
 use Rattle.stream_commands.specs.Workspace.{Effect, Workspace, quiet, with_command}
+use Rattle.stream_commands.specs.Held.{ChainStands, HoldsFiles}
 use Rattle.stream_commands.specs.Lines.{in_changes}
 use Rattle.import_session.specs.Commits.{begun_from, commit_opened, header_said}
 use Rattle.import_session.specs.Opening.{opened_at, opened_with, started_or_cleared}
@@ -116,6 +118,23 @@ put_back state left p t refs change commit next out result is left_is changed =
     (changed_open (workspace_in state p t refs) change (shown_in (objects p t.entries) commit)
     (shown_in (objects p t.entries) next) out result
     (ap (λ (c : OpenCommand HeldCommit). command_with (commit_in (objects p t.entries)) c) is) changed)
+
+-- a session that takes its commit out and looks a commit up, and puts its own back
+pub left_with : (state looked left : StreamState) (spent : OpenCommand HeldCommit) (next : HeldCommit)
+    (chain : List (List ℕ)) → looked ≡ record (state_with state spent) { chain = chain }
+    → left ≡ state_with looked (open_command.Changes next)
+    → left ≡ state_with (record state { chain = chain }) (open_command.Changes next)
+left_with state looked left spent next chain looked_is left_is =
+    left_is ∙ ap (λ (s : StreamState). state_with s (open_command.Changes next)) looked_is
+
+pub held_with : (os : List Object) (state left : StreamState) (next : HeldCommit)
+    (chain : List (List ℕ)) (result : Result Unit Fault) → AreBranches os state.kept
+    → ChainStands os chain → OnOk result (Stands os next)
+    → left ≡ state_with (record state { chain = chain }) (open_command.Changes next)
+    → OnOk result (HoldsFiles os left)
+held_with os state left next chain (Ok u) kept follows stands is =
+    rw is (record { command = stands; kept = kept; chain = follows })
+held_with os state left next chain (Err f) kept follows stands is = tt
 
 -- a file of it waits for its data
 pub file_waits : (state : StreamState) (p : Cells) (t : View) (refs : RefStore)

@@ -13,7 +13,7 @@ ghost use Rattle.stream_commands.specs.Lent.{Keeps};
 ghost use Rattle.import_session.specs.Commits.{closed_where, commit_closed, open_closed};
 ghost use Rattle.stream_commands.specs.State.{command_shown, state_shown, workspace_in, KeepsCommitted};
 ghost use Rattle.import_session.specs.Session.{Leaves};
-ghost use Rattle.stream_commands.specs.Held.{FilesStand};
+ghost use Rattle.stream_commands.specs.Held.{ChainStands, FilesStand};
 
 use content_pool::Pool;
 use git_objects::{Kind, Name, Naming};
@@ -48,6 +48,8 @@ fn close_commit<N: Naming>(
     ensures nothing { command_shown state.new.command ≡ Nothing }
     ensures kept { AreBranches (objects pool.old table.old.entries) state.old.kept
         → AreBranches (objects pool.new table.new.entries) state.new.kept }
+    ensures chain { ChainStands (objects pool.old table.old.entries) state.old.chain
+        → ChainStands (objects pool.new table.new.entries) state.new.chain }
     ensures held { OnOk result (IsCommitHeld (objects pool.new table.new.entries) commit.new) }
     ensures committed { KeepsCommitted pool.old table.old pool.new table.new }
 {

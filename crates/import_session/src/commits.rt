@@ -1,6 +1,6 @@
 //! The lines of a commit up to its changes: git-fast-import(1), "commit".
 
-ghost use Rattle.std.specs.Prelude.{List, ℕ, OnOk};
+ghost use Rattle.std.specs.Prelude.{◌≡◌, List, ℕ, OnOk};
 ghost use Rattle.content_pool.specs.Pool.{Cells};
 ghost use Rattle.git_model.specs.GoodRepository.{AreObjects};
 ghost use Rattle.tenant_tables.specs.Objects.{objects};
@@ -10,7 +10,7 @@ ghost use Rattle.stream_grammar.specs.Acts.{Begin, Author, Committer, Encoding, 
 ghost use Rattle.stream_grammar.specs.Shown.{commit_command_shown, commit_shown as said_shown};
 ghost use Rattle.open_commits.specs.OpenCommit.{shown_in, IsCommitHeld};
 ghost use Rattle.import_session.specs.Commits.{commit_merged, commit_said, commit_started};
-ghost use Rattle.stream_commands.specs.Held.{FilesStand, KeepsBranchFiles};
+ghost use Rattle.stream_commands.specs.Held.{ChainStands, FilesStand, KeepsBranchFiles};
 ghost use Rattle.import_session.specs.Sound.{IsSound};
 ghost use Rattle.stream_commands.specs.State.{state_shown, workspace_in, CarriesOut};
 ghost use Rattle.import_session.specs.Session.{Leaves};
@@ -96,19 +96,23 @@ fn start_from<N: Naming>(
     pool: &Pool<N>,
     table: &Table,
     refs: &Refs,
-    state: &StreamState,
+    state: &mut StreamState,
     commit: &mut OpenCommit,
     from: &CommitIsh<'_>,
 ) -> Result<(), Fault>
     requires stands { IsBackedBy N.digest_of pool.now table.now.entries }
     requires held { IsCommitHeld (objects pool.now table.now.entries) commit.old }
-    ensures done { let workspace = workspace_in (state_shown state.now) pool.now table.now refs.now
+    requires chain { ChainStands (objects pool.now table.now.entries) state.old.chain }
+    ensures done { let workspace = workspace_in (state_shown state.old) pool.now table.now refs.now
         in
         AreObjects N.digest_of workspace.objects → Leaves
         (commit_started workspace (said_shown from.now)
         (shown_in workspace.objects commit.old))
         (shown_in workspace.objects commit.new) result }
     ensures held { OnOk result (IsCommitHeld (objects pool.now table.now.entries) commit.new) }
+    ensures same { state_shown state.new
+        ≡ record (state_shown state.old) { chain = state.new.chain } }
+    ensures chain { ChainStands (objects pool.now table.now.entries) state.new.chain }
 {
     let id = start_of(pool, table, refs, state, &commit.header.ref_name, from)?;
     passed_on(commit.start_from(pool, table, id))
@@ -119,19 +123,23 @@ fn merge<N: Naming>(
     pool: &Pool<N>,
     table: &Table,
     refs: &Refs,
-    state: &StreamState,
+    state: &mut StreamState,
     commit: &mut OpenCommit,
     other: &CommitIsh<'_>,
 ) -> Result<(), Fault>
     requires stands { IsBackedBy N.digest_of pool.now table.now.entries }
     requires held { IsCommitHeld (objects pool.now table.now.entries) commit.old }
-    ensures done { let workspace = workspace_in (state_shown state.now) pool.now table.now refs.now
+    requires chain { ChainStands (objects pool.now table.now.entries) state.old.chain }
+    ensures done { let workspace = workspace_in (state_shown state.old) pool.now table.now refs.now
         in
         AreObjects N.digest_of workspace.objects → Leaves
         (commit_merged workspace (said_shown other.now)
         (shown_in workspace.objects commit.old))
         (shown_in workspace.objects commit.new) result }
     ensures held { OnOk result (IsCommitHeld (objects pool.now table.now.entries) commit.new) }
+    ensures same { state_shown state.new
+        ≡ record (state_shown state.old) { chain = state.new.chain } }
+    ensures chain { ChainStands (objects pool.now table.now.entries) state.new.chain }
 {
     let id = commit_named(pool, table, refs, state, other)?;
     passed_on(commit.merge(id))

@@ -27,7 +27,7 @@ low_le Greater Less n h = absurd (omega arith)
 low_le Greater Equal n h = absurd (omega arith)
 low_le Greater Greater n h = h
 
-rises : (xs : List (List ℕ)) (x : List ℕ) → IsSorted (slice_cmp nat_cmp) xs
+pub rises : (xs : List (List ℕ)) (x : List ℕ) → IsSorted (slice_cmp nat_cmp) xs
     → IsNonDecreasingBy (λ y. ordering_index (slice_cmp nat_cmp y x)) xs
 rises xs x h = searchable_from_sorted nat_list_cmp_total (λ y. y) xs x h
 

@@ -1,8 +1,9 @@
 -- What contracts see of an index of names.
-use Rattle.std.specs.Prelude.{◌≡◌, ◌≤◌, ◌++◌, ◌∷◌, [], ℕ, ◌&&◌, Bool, true, false, List, not, take, drop, length, IsPermutation}
+use Rattle.std.specs.Prelude.{◌≡◌, ◌≤◌, ◌+◌, ◌/◌, ◌==◌, ◌++◌, ◌∷◌, [], ℕ, ◌&&◌, Bool, if◌then◌else◌, max, true, false, List, not, take, drop, length, IsPermutation}
 use Rattle.std.specs.Cmp.Lexicographic.{slice_cmp}
 use Rattle.std.specs.List.{flat_map}
 use Rattle.std.specs.Ordering.{nat_cmp, is_lt, is_le}
+use Rattle.std.specs.Str.{bytes_eq}
 use Rattle.name_index.specs.declared.found.Between.{Between}
 use Rattle.name_index.specs.declared.found.Between.TheVariants as found
 
@@ -34,6 +35,22 @@ with_more b [] = b
 with_more found.None (id ∷ more) = two_of (id ∷ more)
 with_more (found.One only) (id ∷ more) = found.Many
 with_more found.Many (id ∷ more) = found.Many
+
+-- How many leading hexadecimal digits two names share.
+abbrev pub shared_digits : List ℕ → List ℕ → ℕ
+shared_digits [] other = 0
+shared_digits (a ∷ id) [] = 0
+shared_digits (a ∷ id) (b ∷ other) =
+    if a == b then 2 + shared_digits id other else if a / 16 == b / 16 then 1 else 0
+
+-- How many of them a name shares with another; 0 for the name itself.
+abbrev pub shared_apart : List ℕ → List ℕ → ℕ
+shared_apart id other = if bytes_eq other id then 0 else shared_digits id other
+
+-- The most digits that one of these names, other than `id`, shares with it; 0 if there is no other.
+abbrev pub most_shared : List ℕ → List (List ℕ) → ℕ
+most_shared id [] = 0
+most_shared id (other ∷ more) = max (shared_apart id other) (most_shared id more)
 
 -- What contracts see of an index: the committed names, those of the open stream, and whether there
 -- is room for one more.

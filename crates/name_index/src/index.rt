@@ -3,8 +3,9 @@
 ghost use Rattle.std.specs.Prelude.{◌≡◌, ◌≤◌, ◌++◌, ◌∷◌, [], true, filter, length};
 ghost use Rattle.std.specs.Prelude.{IfOk, OnOk, OnErr};
 ghost use Rattle.name_index.specs.Index.{Merges, Reorders, in_sight, is_between, names_of};
-ghost use Rattle.name_index.specs.Index.{two_of, with_more};
+ghost use Rattle.name_index.specs.Index.{most_shared, two_of, with_more};
 
+use crate::digits::shared_apart;
 use crate::found::Between;
 use crate::run::Run;
 use git_names::{Memory, Name};
@@ -112,6 +113,18 @@ impl NameIndex {
         }
     }
 
+    /// The most leading hexadecimal digits that a name shares with `id`, of all names other than
+    /// `id`, or of the committed ones; 0 if there are no others. Takes no memory.
+    pub fn most_shared(&self, id: &Name, all: bool) -> usize
+        ensures { result ≡ most_shared id.now (in_sight all self.now) }
+    {
+        if all {
+            self.most_shared_all(id)
+        } else {
+            self.most_shared_committed(id)
+        }
+    }
+
     fn between_all(&self, first: &Name, last: &Name) -> Between
         ensures { result ≡ two_of (filter (is_between first.now last.now)
             (self.now.committed ++ self.now.added)) }
@@ -128,6 +141,24 @@ impl NameIndex {
             among(found, self.few.as_slice(), first, last)
         } else {
             found
+        }
+    }
+
+    fn most_shared_all(&self, id: &Name) -> usize
+        ensures { result ≡ most_shared id.now (self.now.committed ++ self.now.added) }
+    {
+        let most = most_in_runs(self.runs.as_slice(), id);
+        most.max(most_among(self.few.as_slice(), id))
+    }
+
+    fn most_shared_committed(&self, id: &Name) -> usize
+        ensures { result ≡ most_shared id.now self.now.committed }
+    {
+        let most = most_in_runs(&self.runs[..self.base], id);
+        if self.closed {
+            most.max(most_among(self.few.as_slice(), id))
+        } else {
+            most
         }
     }
 }
@@ -201,4 +232,25 @@ fn among(before: Between, few: &[Name], first: &Name, last: &Name) -> Between
         }
     }
     found
+}
+
+fn most_in_runs(runs: &[Run], id: &Name) -> usize
+    ensures { result ≡ most_shared id.now (names_of runs.now) }
+{
+    let mut most = 0;
+    for run in runs {
+        most = most.max(run.most_shared(id));
+    }
+    most
+}
+
+// The most digits shared by names in no order.
+fn most_among(few: &[Name], id: &Name) -> usize
+    ensures { result ≡ most_shared id.now few.now }
+{
+    let mut most = 0;
+    for other in few {
+        most = most.max(shared_apart(id, other));
+    }
+    most
 }

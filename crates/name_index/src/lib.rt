@@ -6,9 +6,11 @@
 //! run by halves.
 #![tactic(auto)]
 
+mod digits;
 mod found;
 mod index;
 mod run;
 
+pub use digits::shared_apart;
 pub use found::Between;
 pub use index::NameIndex;

@@ -12,10 +12,11 @@ pub mod Begun
 pub mod Built
 pub mod Filled
 pub mod Ordered
-pub mod Halved
-pub mod Marked
-pub mod Collected
+pub mod TenantSlots
+pub mod SeenSlots
+pub mod ListedContents
 pub mod Planning
+pub mod Numbered
 pub mod Placed
 pub mod Chosen
 pub mod Views

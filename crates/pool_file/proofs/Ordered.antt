@@ -1,10 +1,9 @@
 -- How one more element goes into a list in the order of its keys.
-use Rattle.std.proofs.Common.{◌≡◌, ℕ, zero, suc, ◌<◌, Bool, true, false, cond, ◌&&◌, List, [], ◌∷◌, ◌++◌, map, length, Option, None, Some, T, refl, sym, ap, subst, ◌∙◌, arith}
+use Rattle.std.proofs.Common.{◌≡◌, ℕ, Bool, true, false, cond, ◌&&◌, List, [], ◌∷◌, ◌++◌, map, length, Option, None, Some, T, refl, sym, ap, subst, ◌∙◌, arith}
 use Rattle.std.specs.Ordering.{nat_cmp, is_eq, is_lt, match_ordering, eq_by_cmp}
 use Rattle.std.specs.Cmp.Lexicographic.{slice_cmp}
 use Rattle.std.specs.declared.cmp.Ordering.{Ordering}
 use Rattle.std.specs.declared.cmp.Ordering.TheVariants.{Less, Equal, Greater}
-use Rattle.std.specs.Prelude.{slice_index_or, Contains}
 use Rattle.std.specs.List.{AllByRecursion}
 use Rattle.std.specs.BTreeSet.{insert_key}
 use Rattle.std.specs.FinMap.{FinMap, IsAntisymmetric, find, put, is_sorted, entries, entries_sorted, from_entries, from_entries_push, entries-insert, get-entries, get-from_entries, len-entries, len-empty, same_map, slice_cmp-IsAntisymmetric, nat_cmp-IsAntisymmetric}
@@ -247,30 +246,6 @@ module _ {X : Type 0} (key : X → List ℕ) where
       by None e = push_new xs x e
       by (Some z) e = push_again xs x z e
 
-  -- one that is there already changes nothing
-  there : (xs : List X) (x : X) (k : ℕ) → k < length xs → slice_index_or xs k x ≡ x
-      → (z : X) × (find key_cmp (key x) (keyed_by xs) ≡ Some z)
-  there [] x k l e = absurd (omega (arith, l))
-  there (y ∷ ys) x zero l e = (
-    y,
-    ap (λ (b : Bool). cond b (Some y) (find key_cmp (key x) (keyed_by ys)))
-        (same_key (key x) (key y) (ap key (sym e))),
-  )
-  there (y ∷ ys) x (suc k) l e = by (eq_by_cmp key_cmp (key x) (key y)) (there ys x k (omega (arith, l)) e)
-    where
-      by : (b : Bool) → ((z : X) × (find key_cmp (key x) (keyed_by ys) ≡ Some z))
-          → (z : X) × (cond b (Some y) (find key_cmp (key x) (keyed_by ys)) ≡ Some z)
-      by true found = (y, refl)
-      by false found = found
-
-  pub listed_again : (xs : List X) (x : X) → Contains xs x
-      → listed_by key xs ≡ listed_by key (xs ++ x ∷ [])
-  listed_again xs x c =
-      let found = there xs x c.0 c.1 c.2 in
-      sym (put_again x found.0 (listed_by key xs) (listed_sorted xs)
-      (found_listed (key x) xs ∙ found.1))
-      ∙ listed_push xs x
-
   -- ---- what holds of each element holds of each that is listed
 
   put_each : (P : X → Type 0) (k : List ℕ) (x : X) (es : List (List ℕ × X)) → P x
@@ -345,18 +320,3 @@ module _ {X Y : Type 0} (key : X → List ℕ) (f : Y → X) where
   listed_turned ys =
       ap (λ (es : List (List ℕ × X)). map (λ e. e.1) es) (entries_turned ys)
       ∙ values_turned (entries (tree_of key_after ys))
-
-  pub insert_turned : (ys : List Y) (y : Y)
-      → map f (insert_key (order_by key_after) ys y) ≡ insert_key (order_by key) (map f ys) (f y)
-  insert_turned [] y = refl
-  insert_turned (z ∷ zs) y = by (key_cmp (key (f y)) (key (f z))) (insert_turned zs y)
-    where
-      by : (o : Ordering)
-          → map f (insert_key (order_by key_after) zs y)
-          ≡ insert_key (order_by key) (map f zs) (f y)
-          → map f (match_ordering o (y ∷ z ∷ zs) (z ∷ zs) (z ∷ insert_key (order_by key_after) zs y))
-          ≡ match_ordering o (f y ∷ f z ∷ map f zs) (f z ∷ map f zs)
-          (f z ∷ insert_key (order_by key) (map f zs) (f y))
-      by Less later = refl
-      by Equal later = refl
-      by Greater later = ap (λ (l : List X). f z ∷ l) later

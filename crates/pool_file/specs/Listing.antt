@@ -1,8 +1,6 @@
 -- Lists in the order of their keys, which are bytes.
-use Rattle.std.specs.Prelude.{ℕ, List, map, position, IsTrue}
+use Rattle.std.specs.Prelude.{ℕ, List, map, IsTrue}
 use Rattle.std.specs.Ordering.{nat_cmp}
-use Rattle.std.specs.Option.{unwrap_or}
-use Rattle.std.specs.Str.{bytes_eq}
 use Rattle.std.specs.Cmp.Lexicographic.{slice_cmp}
 use Rattle.std.specs.FinMap as finite
 
@@ -14,7 +12,3 @@ listed_by key xs =
 -- The keys of a list rise.
 abbrev pub IsInOrder : {X : Type 0} → (X → List ℕ) → List X → Type 0
 IsInOrder key xs = IsTrue (finite.is_sorted (slice_cmp nat_cmp) (map (λ x. (key x, x)) xs))
-
--- The number of the element with this key in a list, from 0; also 0 if no element has it.
-abbrev pub number_by : {X : Type 0} → (X → List ℕ) → List X → List ℕ → ℕ
-number_by key xs k = unwrap_or (position (λ x. bytes_eq k (key x)) xs) 0

@@ -1,47 +1,57 @@
--- What a save notes of the slots of a pool, at their numbers.
-use Rattle.std.specs.Prelude.{◌≡◌, ◌⊎◌, ℕ, Bool, true, List, ◌++◌, Option, Some, slice_get}
-use Rattle.std.specs.List.{Contains}
+-- The slots of the objects that a save writes, and what it lists and notes at their numbers.
+use Rattle.std.specs.Prelude.{◌≡◌, ◌↔◌, ℕ, ◌≤◌, List, ◌++◌, map, take, Option, Some, slice_get, All}
+use Rattle.std.specs.List.{Contains, flat_map}
+use Rattle.git_model.specs.Content.{Content}
 use Rattle.content_pool.specs.Pool.{Cells, content}
-use Rattle.pool_file_format.specs.Format.{RawObject}
-use Rattle.pool_file_checks.specs.Objects.{raw_object, object_key}
-use Rattle.pool_file.specs.declared.content.LentContent.{LentContent}
-use Rattle.pool_file.specs.Listing.{number_by}
-use Rattle.pool_file.specs.Lent.{lent_key, IsListed}
+use Rattle.pool_file_checks.specs.Objects.{raw_object}
+use Rattle.pool_file_checks.specs.Repositories.{number_in}
+use Rattle.pool_file.specs.declared.content.ListedContent.{ListedContent}
+use Rattle.pool_file.specs.declared.tenant_view.TenantView.{TenantView}
+use Rattle.pool_file.specs.Building.{times_in}
+use Rattle.pool_file.specs.Lent.{object_lent}
 
--- The slot is marked.
-abbrev pub IsMarked : List Bool → ℕ → Type 0
-IsMarked marks s = slice_get marks s ≡ Some true
+-- The slots of the objects of a tenant that are saved, oldest first.
+abbrev pub slots_of : TenantView → List ℕ
+slots_of saved = map (λ e. e.1.slot) (take saved.objects saved.table.now.entries)
 
--- No slot was marked that was not marked before.
-abbrev pub MarksNone : List Bool → List Bool → Type 0
-MarksNone old new = (s : ℕ) → IsMarked new s → IsMarked old s
+-- The slots of the objects of all tenants that are saved.
+abbrev pub all_slots : List TenantView → List ℕ
+all_slots tenants = flat_map slots_of tenants
 
--- Every marked slot is this one, or was marked before.
-abbrev pub Marks : ℕ → List Bool → List Bool → Type 0
-Marks slot old new = (s : ℕ) → IsMarked new s → (s ≡ slot) ⊎ IsMarked old s
+-- A list has just these slots, each at its number.
+pub record AreSeen (seen : List (Option ℕ)) (slots : List ℕ) : Type 0 where
+  pub each : (n s : ℕ) → slice_get seen n ≡ Some (Some s) → (s ≡ n) × Contains slots s
+  pub all : (s : ℕ) → Contains slots s → slice_get seen s ≡ Some (Some s)
 
--- The contents of some objects are listed, and the contents of the marked slots are among them.
-pub record IsCollected (pool : Cells) (listed : List LentContent) (marks : List Bool)
-    (objects : List RawObject) : Type 0 where
-  pub each : IsListed listed objects
-  pub marked : (s : ℕ) → IsMarked marks s → Contains objects (raw_object (content pool s))
+-- Each list has the slots of the other.
+abbrev pub KeepsSlots : List (Option ℕ) → List (Option ℕ) → Type 0
+KeepsSlots old new = (n s : ℕ) → slice_get new n ≡ Some (Some s) ↔ slice_get old n ≡ Some (Some s)
 
--- The contents of some more objects were added.
-abbrev pub Collects : Cells → List LentContent → List Bool → List LentContent → List Bool
-    → List RawObject → Type 0
-Collects pool old old_marks new new_marks objects = (before : List RawObject)
-    → IsCollected pool old old_marks before → IsCollected pool new new_marks (before ++ objects)
+-- Some more slots came.
+abbrev pub Sees : List (Option ℕ) → List (Option ℕ) → List ℕ → Type 0
+Sees old new more = (slots : List ℕ) → AreSeen old slots → AreSeen new (slots ++ more)
 
--- The number of an object among contents in the order of the file.
-abbrev pub raw_number : List LentContent → RawObject → ℕ
-raw_number contents object = number_by lent_key contents (object_key object)
+-- The slots of contents, in the order of these.
+abbrev pub slots_listed : List ListedContent → List ℕ
+slots_listed listed = map (λ c. c.slot) listed
 
--- Each number that is noted for a slot is that of its content.
-abbrev pub AreKnown : Cells → List LentContent → List (Option ℕ) → Type 0
-AreKnown pool contents known = (s n : ℕ) → slice_get known s ≡ Some (Some n)
-    → n ≡ raw_number contents (raw_object (content pool s))
+-- No slot has two contents.
+abbrev pub AreOnce : List ListedContent → Type 0
+AreOnce listed = (s : ℕ) → times_in (slots_listed listed) s ≤ 1
 
--- Every number that is noted is this one of this slot, or was noted before.
-abbrev pub Notes : ℕ → ℕ → List (Option ℕ) → List (Option ℕ) → Type 0
-Notes slot number old new = (s n : ℕ) → slice_get new s ≡ Some (Some n)
-    → ((s ≡ slot) × (n ≡ number)) ⊎ (slice_get old s ≡ Some (Some n))
+-- The contents of just these slots, each once.
+pub record AreListed (pool : Cells) (listed : List ListedContent) (slots : List ℕ) : Type 0 where
+  pub each : All (λ c. object_lent c.content ≡ raw_object (content pool c.slot)) listed
+  pub from : All (λ c. Contains slots c.slot) listed
+  pub all : All (Contains (slots_listed listed)) slots
+  pub once : AreOnce listed
+
+-- At the number of the slot of each content stands the number of the content in the list.
+abbrev pub NumbersSlots : List ListedContent → List ℕ → Type 0
+NumbersSlots listed by_slot = (n : ℕ) (c : ListedContent) → slice_get listed n ≡ Some c
+    → slice_get by_slot c.slot ≡ Some n
+
+-- The number that is noted for a slot is that of its content.
+abbrev pub IsNumbered : Cells → List Content → List ℕ → ℕ → Type 0
+IsNumbered pool contents by_slot s =
+    slice_get by_slot s ≡ Some (number_in contents (content pool s))

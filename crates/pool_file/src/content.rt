@@ -16,6 +16,13 @@ pub struct LentContent<'a> {
     pub bytes: &'a [u8],
 }
 
+/// A content, and the number of its slot. They compare by their contents.
+#[derive(Clone, Copy, PartialEq, Eq, PartialOrd, Ord)]
+pub struct ListedContent<'a> {
+    pub content: LentContent<'a>,
+    pub slot: usize,
+}
+
 fn kind_byte(kind: Kind) -> u8
     ensures { result ≡ kind_byte kind }
 {

@@ -11,7 +11,6 @@ mod contents;
 mod listing;
 mod loading;
 mod numbers;
-mod order;
 mod plan;
 mod raw_refs;
 mod refs;

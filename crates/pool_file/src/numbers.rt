@@ -1,98 +1,58 @@
-//! The numbers of a tenant's objects in the list of all contents.
-//!
-//! The number of a slot is searched for once, and then kept for all tenants that have the content.
+//! The numbers of objects in the list of all contents, by the slots of their contents.
 
-ghost use Rattle.std.specs.Prelude.{◌≡◌, List, IfOk, map};
-ghost use Rattle.content_pool.specs.Pool.{Cells, IsLive, content};
-ghost use Rattle.tenant_tables.specs.IsBackedBy.{IsBackedBy};
-ghost use Rattle.pool_file_checks.specs.Objects.{raw_object};
-ghost use Rattle.pool_file.specs.declared.content.LentContent.{LentContent};
-ghost use Rattle.pool_file.specs.Listing.{IsInOrder, number_by};
-ghost use Rattle.pool_file.specs.Lent.{raw_contents, lent_key};
-ghost use Rattle.pool_file.specs.Slots.{AreKnown, Notes, raw_number};
-ghost use Rattle.pool_file.specs.Worth.{named_in};
+ghost use Rattle.std.specs.Prelude.{◌≡◌, ◌<◌, All, IfOk, length, map, slice_index};
+ghost use Rattle.pool_file.specs.Slots.{NumbersSlots, AreOnce, slots_of};
 
-use crate::content::{LentContent, lent_content};
+use crate::content::ListedContent;
 use crate::tenant_view::TenantView;
-use content_pool::{Pool, Slot};
-use git_names::{Memory, Naming};
+use content_pool::Slot;
+use git_names::Memory;
 use std::alloc::Global;
 
-// The number of a content in a list in order, from 0; also 0 for a content that is not in it.
-fn number_of<'a>(all: &[LentContent<'a>], content: &LentContent<'a>) -> u64
-    requires { IsInOrder lent_key all.now }
-    ensures { result ≡ number_by lent_key all.now (lent_key content.now) }
-{
-    match all.binary_search(content) {
-        Ok(place) => place as u64,
-        Err(_) => 0,
-    }
-}
-
-/// A list for the numbers of this many slots, of which none is known yet.
+/// The number of each of these contents, counted from 0, at the number of its slot.
 ///
-/// `Memory` (90) if there is no memory for it.
-pub fn no_numbers(alloc: Global, slots: usize) -> Result<Vec<Option<u64>>, Memory>
-    ensures { IfOk result (λ known. (pool : Cells) (contents : List LentContent)
-        → AreKnown pool contents known.items) }
+/// `Memory` (90) if there is no memory for a number for each of so many slots.
+pub fn numbers_by_slot(
+    alloc: Global,
+    contents: &[ListedContent<'_>],
+    slots: usize,
+) -> Result<Vec<u64>, Memory>
+    requires within { All (λ c. c.slot < slots) contents.now }
+    requires once { AreOnce contents.now }
+    ensures { IfOk result (λ numbers. NumbersSlots contents.now numbers.items) }
 {
-    let known = Vec::from_elem(alloc, None, slots)?;
-    Ok(known)
-}
-
-// Keeps a number for this slot, if the list has the slot.
-fn note(known: &mut [Option<u64>], slot: usize, number: u64)
-    ensures { Notes slot number known.old known.new }
-{
-    if slot < known.len() {
-        known[slot] = Some(number);
+    let mut numbers = Vec::from_elem(alloc, 0, slots)?;
+    for place in 0..contents.len() {
+        numbers[contents[place].slot] = place as u64;
     }
+    Ok(numbers)
 }
 
-// The number of the content in this slot in a list in order, and the numbers that are then known.
-fn number_at<'a, N: Naming>(
-    pool: &'a Pool<N>,
-    contents: &[LentContent<'a>],
-    known: &mut [Option<u64>],
-    slot: Slot,
-) -> u64
-    requires live { IsLive pool.now slot }
-    requires order { IsInOrder lent_key contents.now }
-    requires known { AreKnown pool.now contents.now known.old }
-    ensures known { AreKnown pool.now contents.now known.new }
-    ensures number { result ≡ raw_number contents.now (raw_object (content pool.now slot)) }
+// The number at this slot.
+fn number_at(by_slot: &[u64], slot: Slot) -> u64
+    requires { slot < length by_slot.now }
+    ensures { result ≡ slice_index by_slot.now slot }
 {
-    let place = slot.number();
-    if let Some(Some(number)) = known.get(place) {
-        return *number;
-    }
-    let number = number_of(contents, &lent_content(pool, slot));
-    note(known, place, number);
-    number
+    by_slot[slot.number()]
 }
 
-/// The numbers of those objects of a tenant that are saved, in a list in order, oldest first. `known` has the
-/// numbers that are known, each at the number of its slot, and then knows these too.
+/// The numbers of those objects of a tenant that are saved, oldest first. `by_slot` has the number
+/// of each content at the number of its slot.
 ///
 /// `Memory` (90) if there is no memory for them.
-pub fn numbers_of<'a, N: Naming>(
+pub fn numbers_of(
     alloc: Global,
-    pool: &'a Pool<N>,
-    contents: &[LentContent<'a>],
-    known: &mut [Option<u64>],
+    by_slot: &[u64],
     tenant: &TenantView<'_>,
 ) -> Result<Vec<u64>, Memory>
-    requires stands { IsBackedBy N.digest_of pool.now tenant.now.table.now.entries }
-    requires order { IsInOrder lent_key contents.now }
-    requires known { AreKnown pool.now contents.now known.old }
-    ensures known { AreKnown pool.now contents.now known.new }
-    ensures numbers { IfOk result (λ numbers. numbers.items ≡ map (raw_number contents.now)
-        (raw_contents (named_in pool.now tenant.now).repository.objects)) }
+    requires { All (λ s. s < length by_slot.now) (slots_of tenant.now) }
+    ensures { IfOk result (λ numbers. numbers.items
+        ≡ map (λ s. slice_index by_slot.now s) (slots_of tenant.now)) }
 {
     let mut numbers = Vec::with_capacity(alloc, tenant.object_count())?;
     for place in 0..tenant.object_count() {
         if let Some((_, slot)) = tenant.table.at(place) {
-            numbers.push(number_at(pool, contents, known, slot))?;
+            numbers.push(number_at(by_slot, slot))?;
         }
     }
     Ok(numbers)

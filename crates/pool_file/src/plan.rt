@@ -6,9 +6,9 @@ ghost use Rattle.pool_file_checks.specs.Repositories.{raw_of};
 ghost use Rattle.pool_file.specs.Worth.{AllStand, to_save};
 ghost use Rattle.pool_file.specs.Lent.{objects_lent};
 
-use crate::content::LentContent;
+use crate::content::ListedContent;
 use crate::listing::listed_contents;
-use crate::numbers::no_numbers;
+use crate::numbers::numbers_by_slot;
 use crate::tenant_view::TenantView;
 use crate::tenants::{raw_tenants, tenants_to_save};
 use content_pool::Pool;
@@ -26,16 +26,16 @@ pub struct Plan<'a> {
 // The contents as they are written.
 fn lent_objects<'a>(
     alloc: Global,
-    contents: &[LentContent<'a>],
+    contents: &[ListedContent<'a>],
 ) -> Result<Vec<LentObject<'a>>, Memory>
     ensures { IfOk result
         (λ objects. map lent_object_of objects.items ≡ objects_lent contents.now) }
 {
     let mut objects = Vec::with_capacity(alloc, contents.len())?;
-    for content in contents {
+    for listed in contents {
         objects.push(LentObject {
-            kind: content.kind,
-            bytes: content.bytes,
+            kind: listed.content.kind,
+            bytes: listed.content.bytes,
         })?;
     }
     Ok(objects)
@@ -56,8 +56,8 @@ pub fn planned<'a, N: Naming>(
 {
     let saved = tenants_to_save(alloc, tenants)?;
     let listing = listed_contents(alloc, pool, &saved)?;
-    let mut known = no_numbers(alloc, listing.slots)?;
-    let tenants = raw_tenants(alloc, pool, &listing.contents, &mut known, &saved)?;
+    let numbers = numbers_by_slot(alloc, &listing.contents, listing.slots)?;
+    let tenants = raw_tenants(alloc, &numbers, &saved)?;
     let objects = lent_objects(alloc, &listing.contents)?;
     Ok(Plan { objects, tenants })
 }

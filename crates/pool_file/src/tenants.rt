@@ -1,21 +1,17 @@
 //! Which tenants are saved, and what the file has of each.
 
-ghost use Rattle.std.specs.Prelude.{◌≡◌, ℕ, List, IfOk, map};
+ghost use Rattle.std.specs.Prelude.{◌≡◌, ◌<◌, ℕ, All, List, IfOk, length, map};
+ghost use Rattle.git_model.specs.Content.{Content};
 ghost use Rattle.content_pool.specs.Pool.{Cells};
-ghost use Rattle.tenant_tables.specs.IsBackedBy.{IsBackedBy};
 ghost use Rattle.pool_file_format.specs.Shown.{tenant_of, tenants_of};
-ghost use Rattle.pool_file_checks.specs.Repositories.{Named, raw_tenant, listed_contents};
-ghost use Rattle.pool_file.specs.Listing.{IsInOrder};
+ghost use Rattle.pool_file_checks.specs.Repositories.{raw_tenant};
 ghost use Rattle.pool_file.specs.Worth.{AllStand, named_in, to_save};
-ghost use Rattle.pool_file.specs.Lent.{Lists, lent_key};
-ghost use Rattle.pool_file.specs.Slots.{AreKnown};
+ghost use Rattle.pool_file.specs.Slots.{IsNumbered, all_slots, slots_of};
 
-use crate::content::LentContent;
 use crate::numbers::numbers_of;
 use crate::raw_refs::raw_refs;
 use crate::tenant_view::TenantView;
-use content_pool::Pool;
-use git_names::{Memory, Naming};
+use git_names::Memory;
 use pool_file_format::RawTenant;
 use std::alloc::Global;
 use std::collections::BTreeSet;
@@ -65,22 +61,18 @@ pub fn tenants_to_save<'a>(
     all_tenants(alloc, by_name)
 }
 
-// A tenant, as a file with these contents has it.
-fn raw_tenant<'a, N: Naming>(
+// A tenant, as the file has it.
+fn raw_tenant<'a>(
     alloc: Global,
-    pool: &'a Pool<N>,
-    contents: &[LentContent<'a>],
-    known: &mut [Option<u64>],
+    by_slot: &[u64],
     tenant: &TenantView<'a>,
 ) -> Result<RawTenant, Memory>
-    requires stands { IsBackedBy N.digest_of pool.now tenant.now.table.now.entries }
-    requires order { IsInOrder lent_key contents.now }
-    requires known { AreKnown pool.now contents.now known.old }
-    ensures known { AreKnown pool.now contents.now known.new }
-    ensures raw { IfOk result (λ raw. (all : List Named) → Lists contents.now all
-        → tenant_of raw ≡ raw_tenant (listed_contents all) (named_in pool.now tenant.now)) }
+    requires { All (λ s. s < length by_slot.now) (slots_of tenant.now) }
+    ensures { IfOk result (λ raw. (pool : Cells) (contents : List Content)
+        → All (IsNumbered pool contents by_slot.now) (slots_of tenant.now)
+        → tenant_of raw ≡ raw_tenant contents (named_in pool tenant.now)) }
 {
-    let numbers = numbers_of(alloc, pool, contents, known, tenant)?;
+    let numbers = numbers_of(alloc, by_slot, tenant)?;
     Ok(RawTenant {
         name: Vec::from_slice(alloc, tenant.name.as_bytes())?,
         numbers,
@@ -89,27 +81,23 @@ fn raw_tenant<'a, N: Naming>(
     })
 }
 
-/// All tenants, as a file with these contents has them. `known` has the numbers of contents that
-/// are known, each at the number of its slot, and then knows more.
+/// All tenants, as the file has them. `by_slot` has the number of each content at the number of its
+/// slot.
 ///
 /// `Memory` (90) if there is no memory for them.
-pub fn raw_tenants<'a, N: Naming>(
+pub fn raw_tenants<'a>(
     alloc: Global,
-    pool: &'a Pool<N>,
-    contents: &[LentContent<'a>],
-    known: &mut [Option<u64>],
+    by_slot: &[u64],
     tenants: &[TenantView<'a>],
 ) -> Result<Vec<RawTenant>, Memory>
-    requires stand { AllStand N.digest_of pool.now tenants.now }
-    requires order { IsInOrder lent_key contents.now }
-    requires known { AreKnown pool.now contents.now known.old }
-    ensures { IfOk result (λ raws. (all : List Named) → Lists contents.now all
-        → tenants_of raws.items
-        ≡ map (raw_tenant (listed_contents all)) (map (named_in pool.now) tenants.now)) }
+    requires { All (λ s. s < length by_slot.now) (all_slots tenants.now) }
+    ensures { IfOk result (λ raws. (pool : Cells) (contents : List Content)
+        → All (IsNumbered pool contents by_slot.now) (all_slots tenants.now)
+        → tenants_of raws.items ≡ map (raw_tenant contents) (map (named_in pool) tenants.now)) }
 {
     let mut raws = Vec::new(alloc);
     for tenant in tenants {
-        raws.push(raw_tenant(alloc, pool, contents, known, tenant)?)?;
+        raws.push(raw_tenant(alloc, by_slot, tenant)?)?;
     }
     Ok(raws)
 }

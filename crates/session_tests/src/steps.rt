@@ -9,7 +9,7 @@ ghost use Rattle.stream_commands.specs.Held.{FilesStand};
 use content_pool::Pool;
 use git_objects::{Name, Naming, Sha1Naming, TailNaming};
 use import_session::{Fault, Session};
-use std::alloc::Global;
+use std::alloc::{AllocError, Global};
 use std::test::Fail;
 use stream_lex::Item;
 use tenant_refs::{RefName, Refs};
@@ -56,6 +56,20 @@ const CASES: &str = "\
     blob|=hello\n|done;;0;yes;1;6;1;6#\
     keeps what was checkpointed at a checkpoint;\
     blob|=hello\n|checkpoint|blob|=other;;0;no;2;11;1;6#\
+    moves the branches whose new tip reaches the old one, and keeps the others, as git does;\
+    commit refs/heads/m|mark :1|committer|=one\n|commit refs/heads/m|mark :2|committer|=two\n|\
+    commit refs/heads/o|mark :3|committer|=other\n|commit refs/heads/p|mark :4|committer|\
+    =side\n|from :2|commit refs/heads/m|mark :5|committer|=three\n|commit refs/heads/m|mark :6|\
+    committer|=four\n|reset refs/heads/a|from :5|reset refs/heads/b|from :3|reset refs/heads/c|\
+    from :1|reset refs/heads/d|from :4|reset refs/heads/e|from :2|reset refs/heads/f|from :1|\
+    reset refs/heads/g|from :6|reset refs/heads/h|from :3|reset refs/heads/i|from :2|\
+    reset refs/heads/j|from :4|reset refs/heads/k|from :1|reset refs/heads/l|from :3|checkpoint|\
+    reset refs/heads/a|from :6|reset refs/heads/b|from :6|reset refs/heads/c|from :6|\
+    reset refs/heads/d|from :6|reset refs/heads/e|from :4|reset refs/heads/f|from :6|\
+    reset refs/heads/g|from :4|reset refs/heads/h|from :4|reset refs/heads/i|from :6|\
+    reset refs/heads/j|from :5|reset refs/heads/k|from :4|reset refs/heads/l|from :6|.;\
+    kept refs/heads/b\nkept refs/heads/d\nkept refs/heads/g\nkept refs/heads/h\n\
+    kept refs/heads/j\nkept refs/heads/l\n;0;no;7;1170;7;1170#\
     stores tags of a blob and of a tag under the names that git gives them;\
     blob|mark :1|=hello\n|tag v|mark :2|from :1|tagger|=first\n|get-mark :2|tag w|mark :3|\
     from :2|=first\n|get-mark :3|done;952cdcc8475363092ec0361133bb58070500a563\n\
@@ -196,6 +210,41 @@ const TAG_CASES: &str = "\
     blob|mark :1|=hello\n|tag v|from :1|tagger|=first\n|no command;no;2";
 
 const TAG_OF_HELLO: &[u8; 40] = b"952cdcc8475363092ec0361133bb58070500a563";
+
+// A commit on each of two branches.
+const ON_M: &str = "commit refs/heads/m|committer|=first\n||";
+
+const ON_N: &str = "commit refs/heads/n|committer|=first\n||";
+
+// First parents that are asked for after 100 commits on `m` and after one more. Then `n` begins at
+// the second commit of `m`.
+const ASKED_OF_M: &str = "\
+    checkpoint|alias|mark :1|to refs/heads/m~90|get-mark :1|\
+    commit refs/heads/m|committer|=first\n||\
+    checkpoint|alias|mark :2|to refs/heads/m~90|get-mark :2|\
+    commit refs/heads/n|committer|=other\n|from refs/heads/m~99||";
+
+// What is asked after 80 more commits on `n`: the commit that it began at, its second commit, and a
+// commit that `m` alone has.
+const ASKED_OF_N: &str = "\
+    checkpoint|alias|mark :3|to refs/heads/n~81|get-mark :3|\
+    alias|mark :4|to refs/heads/n~79|get-mark :4|\
+    alias|mark :5|to refs/heads/m~97|get-mark :5|";
+
+// What is asked after 70 more commits on `m`: the second answer again, and the first commit of `n`.
+const ASKED_LAST: &str = "\
+    checkpoint|alias|mark :6|to refs/heads/m~160|get-mark :6|\
+    alias|mark :7|to refs/heads/n~80|get-mark :7|done";
+
+// The names that git gives these commits.
+const ASKED: &str = "\
+    5bf3c5e1d8bea5b3c20c5ea4c16b8da46cb93bca\n\
+    d63fabf8785a2c91a5fb7c1a77eec6f39076adcf\n\
+    6705ad1a869dc686ea1fafd492ca32ec2e2bb1c8\n\
+    3618f9ad18807134f38105525cbca79a458f59ef\n\
+    a3d4c0d396d2a64d3f3261a160d8872298e8a5d9\n\
+    d63fabf8785a2c91a5fb7c1a77eec6f39076adcf\n\
+    0e70fe51b4eae4c7dbc085ce309d883cf8805175\n";
 
 const FULL: usize = 65_536;
 
@@ -467,6 +516,26 @@ fn leaves_tag(alloc: Global, case: &str) -> bool {
     is_number(case, 3, u64::from(left.number)) && has_tag(&refs, is_yes(case, 2))
 }
 
+// The steps of a stream that asks for first parents between the commits of two branches.
+fn asking_steps(alloc: Global) -> Result<String, AllocError> {
+    let mut steps = ON_M.repeat(alloc, 100)?;
+    steps.push_str(ASKED_OF_M)?;
+    steps.push_str(&ON_N.repeat(alloc, 80)?)?;
+    steps.push_str(ASKED_OF_N)?;
+    steps.push_str(&ON_M.repeat(alloc, 70)?)?;
+    steps.push_str(ASKED_LAST)?;
+    Ok(steps)
+}
+
+// Whether these first parents are those that git finds.
+fn asks_so(alloc: Global) -> Result<bool, AllocError> {
+    let steps = asking_steps(alloc)?;
+    let mut out = Vec::new(alloc);
+    let mut refs = Refs::new(alloc);
+    let left = run(alloc, Sha1Naming, &mut refs, &steps, &mut out);
+    Ok(left.number == 0 && out.as_slice() == ASKED.as_bytes())
+}
+
 fn first_wrong_case(alloc: Global) -> Option<&'static str> {
     for case in CASES.split('#') {
         if !does_so(alloc, case) {
@@ -540,6 +609,12 @@ fn leaves_head_and_refs(rt: HostRuntime) -> Result<(), Fail> {
 #[test]
 fn leaves_tags(rt: HostRuntime) -> Result<(), Fail> {
     assert_eq!(rt; first_wrong_tag(rt.alloc()), None);
+    Ok(())
+}
+
+#[test]
+fn finds_first_parents_between_commits(rt: HostRuntime) -> Result<(), Fail> {
+    assert!(rt; asks_so(rt.alloc())?);
     Ok(())
 }
 

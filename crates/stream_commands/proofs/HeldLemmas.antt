@@ -1,9 +1,9 @@
--- The files that a session holds stay what they are.
+-- What a session holds of its commits stays what it is.
 use Rattle.std.proofs.Common.{◌≡◌, ℕ, List, Option, None, Some, Result, Ok, Err, refl, ap, subst}
-use Rattle.std.specs.Prelude.{OnOk}
+use Rattle.std.specs.Prelude.{OnOk, is_some}
 use Rattle.std.proofs.lemmas.List.Elements.{All-weaker}
 use Rattle.git_model.specs.Content.{Content, name_by}
-use Rattle.git_model.specs.Repository.{Object, with_object}
+use Rattle.git_model.specs.Repository.{Object, object_named, with_object}
 use Rattle.tenant_tables.specs.declared.fault.Fault.{Fault as TableFault}
 use Rattle.content_pool.specs.Pool.{Cells}
 use Rattle.tenant_tables.specs.Adding.{store_fault}
@@ -22,7 +22,8 @@ use Rattle.stream_parts.specs.OpenCommand.{OpenCommand, Changes, Inline, command
 use Rattle.stream_parts.specs.Storing.{stored_or, with_content}
 use Rattle.stream_commands.specs.Faults.{changed_or}
 use Rattle.stream_commands.specs.State.{StreamState, state_with}
-use Rattle.stream_commands.specs.Held.{HoldsFiles, HoldsOpen, KeepsBranchFiles}
+use Rattle.stream_commands.specs.Held.{ChainStands, HoldsFiles, HoldsOpen, KeepsBranchFiles}
+use Rattle.stream_commands.proofs.ChainLemmas.{chain_with}
 
 -- ---- where one object is stored
 
@@ -64,10 +65,18 @@ module _ (digest : List ℕ → List ℕ) (content : Content) (os more : List Ob
       ap (λ (c : OpenCommit). Inline c file) (commit_same held stands)
   command_same _ stands = refl
 
+  chain_grown : (chain : List (List ℕ)) → ChainStands os chain → ChainStands more chain
+  chain_grown chain stands =
+      subst (λ (l : List Object). ChainStands l chain)
+      (stored_is (name_by digest content) content os more
+      (store_fault (name_by digest content) content os) is)
+      (chain_with (is_some (object_named (name_by digest content) os)) os _ chain stands)
+
   pub files_grown : (state : StreamState) → HoldsFiles os state → HoldsFiles more state
   files_grown state holds = record {
     command = command_grown state.stream.command holds.command;
     kept = kept_grown state.kept holds.kept;
+    chain = chain_grown state.chain holds.chain;
   }
 
 -- the files that are kept stay branches where objects are only added
@@ -84,12 +93,16 @@ pub where_ok : {A B : Type 0} {P : Type 0} (r : Result A B) → P → OnOk r P
 where_ok (Ok value) holds = holds
 where_ok (Err e) holds = tt
 
--- a commit that changed is the open one again, beside the files that are kept
+-- a commit that changed is the open one again, beside what is kept
 pub open_again : (os : List Object) (state : StreamState) (commit : HeldCommit)
     (r : Result Unit CommitFault) → OnOk r (Stands os commit) → AreBranches os state.kept
-    → OnOk (changed_or r) (HoldsFiles os (state_with state (Changes commit)))
-open_again os state commit (Ok u) stands kept = record { command = stands; kept = kept }
-open_again os state commit (Err e) stands kept = tt
+    → ChainStands os state.chain → OnOk (changed_or r) (HoldsFiles os (state_with state (Changes commit)))
+open_again os state commit (Ok u) stands kept chain = record {
+  command = stands;
+  kept = kept;
+  chain = chain;
+}
+open_again os state commit (Err e) stands kept chain = tt
 
 -- what stands in any case stands where a call was carried out
 pub still_held : {A : Type 0} (r : Result A Fault) (os : List Object) (old new : StreamState)

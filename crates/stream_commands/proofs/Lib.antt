@@ -1,3 +1,4 @@
+pub mod ChainLemmas
 pub mod ActLemmas
 mod CheckpointLemmas
 pub mod CommittedLemmas

@@ -1,11 +1,14 @@
--- The files that a session holds: those of the open commit, and of the last ones that ended.
-use Rattle.std.specs.Prelude.{List}
+-- What a session holds of its commits: the files of the open one and of the last ones that ended, and
+-- the commits of a walk along first parents.
+use Rattle.std.specs.Prelude.{ℕ, List}
 use Rattle.git_model.specs.Repository.{Object}
+use Rattle.git_model.specs.GoodRepository.{AreObjects}
 use Rattle.content_pool.specs.Pool.{Cells}
 use Rattle.tenant_tables.specs.Objects.{objects}
 use Rattle.tenant_tables.specs.View.{View}
 use Rattle.kept_files.specs.KeptCommits.{AreBranches}
 use Rattle.open_commits.specs.OpenCommit.{HeldCommit, Stands}
+use Rattle.revisions.specs.FirstParents.{IsFirstParentChain}
 use Rattle.stream_parts.specs.OpenCommand.{OpenCommand, Changes, Inline}
 use Rattle.stream_commands.specs.State.{StreamState}
 
@@ -15,15 +18,22 @@ HoldsOpen os (Changes commit) = Stands os commit
 HoldsOpen os (Inline commit file) = Stands os commit
 HoldsOpen os _ = Unit {0}
 
--- All are branches among the objects: each tree that they name is one of them.
+-- Among good objects a chain of commits is one of first parents.
+abbrev pub ChainStands : List Object → List (List ℕ) → Type 0
+ChainStands os chain = (digest : List ℕ → List ℕ) → AreObjects digest os
+    → IsFirstParentChain os chain
+
+-- All files are branches among the objects: each tree that they name is one of them. The chain stands
+-- among them too.
 pub record HoldsFiles (os : List Object) (state : StreamState) : Type 0 where
   pub command : HoldsOpen os state.stream.command
   pub kept : AreBranches os state.kept
+  pub chain : ChainStands os state.chain
 
 -- The same among those of a table over a pool.
 abbrev pub FilesStand : StreamState → Cells → View → Type 0
 FilesStand state pool table = HoldsFiles (objects pool table.entries) state
 
--- Among whatever objects all were branches before a call, all are branches after it.
+-- Among whatever objects all stood before a call, all stand after it.
 abbrev pub KeepsBranchFiles : StreamState → StreamState → Type 0
 KeepsBranchFiles old new = (os : List Object) → HoldsFiles os old → HoldsFiles os new

@@ -19,10 +19,12 @@ use Rattle.stream_parts.specs.StreamOf.{StreamOf, new_stream, stream_with}
 use Rattle.stream_commands.specs.Workspace.{Workspace, Effect}
 
 -- What a stream has of its own apart from its objects. The files of the open commit are held as a
--- branch, and so are the files of the last commits that ended.
+-- branch, and so are the files of the last commits that ended. The chain has
+-- commits of a walk along first parents.
 pub record StreamState : Type 0 where
   pub stream : StreamOf HeldCommit
   pub kept : List KeptCommit
+  pub chain : List (List ℕ)
 
 -- The open command, apart from where it is in memory.
 abbrev pub command_shown : LentCommand → OpenCommand HeldCommit
@@ -46,11 +48,11 @@ stream_shown state = record {
 }
 
 abbrev pub state_shown : LentStreamState → StreamState
-state_shown state = record { stream = stream_shown state; kept = state.kept }
+state_shown state = record { stream = stream_shown state; kept = state.kept; chain = state.chain }
 
 -- The state before the first item.
 abbrev pub empty_state : StreamState
-empty_state = record { stream = new_stream; kept = [] }
+empty_state = record { stream = new_stream; kept = []; chain = [] }
 
 -- The same state with this command open.
 abbrev pub state_with : StreamState → OpenCommand HeldCommit → StreamState

@@ -2,6 +2,8 @@
 
 ghost use Rattle.std.specs.Prelude.{◌≡◌, ◌++◌, IfOk, IfErr, OnOk, OnErr};
 ghost use Rattle.git_model.specs.GoodRepository.{AreObjects};
+ghost use Rattle.content_pool.specs.Pool.{Cells};
+ghost use Rattle.tenant_tables.specs.View.{View};
 ghost use Rattle.tenant_refs.specs.Changes.{with_changes};
 ghost use Rattle.tenant_tables.specs.Objects.{objects};
 ghost use Rattle.tenant_tables.specs.IsBackedBy.{IsBackedBy};
@@ -11,6 +13,7 @@ ghost use Rattle.stream_commands.specs.Held.{KeepsBranchFiles};
 ghost use Rattle.stream_commands.specs.State.{state_shown, workspace_in, CarriesOut};
 
 use crate::state::StreamState;
+use commit_walk::Ancestry;
 use content_pool::Pool;
 use git_objects::{Name, Naming};
 use stream_parts::branches::Tip;
@@ -20,53 +23,53 @@ use stream_parts::checkpoint::{
 use stream_parts::fault::Fault;
 use stream_parts::print::print_kept;
 use tenant_refs::{RefName, Refs};
-use tenant_tables::Table;
+use tenant_tables::{Objects, Sight, Table};
 
 // Whether a branch may set its ref to a tip.
 fn moves<N: Naming>(
-    pool: &Pool<N>,
-    table: &Table,
+    ancestry: &mut Ancestry<'_, N>,
     refs: &Refs,
     state: &StreamState,
     ref_name: &RefName,
     tip: &Name,
 ) -> Result<bool, Fault>
-    requires { IsBackedBy N.digest_of pool.now table.now.entries }
-    ensures judged { AreObjects N.digest_of (objects pool.now table.now.entries)
+    ensures judged { AreObjects N.digest_of ancestry.old → (pool : Cells) (table : View)
+        → ancestry.old ≡ objects pool table.entries
         → IfOk result (λ yes. yes ≡ moves
-        (workspace_in (state_shown state.now) pool.now table.now refs.now) ref_name.now tip.now) }
+        (workspace_in (state_shown state.now) pool table refs.now) ref_name.now tip.now) }
     ensures refused { IfErr result (λ fault. fault ≡ Fault.Memory) }
+    ensures same { ancestry.new ≡ ancestry.old }
 {
     match refs.get(ref_name.as_bytes()) {
-        Some(old) if !state.forces => is_fast_forward(state.alloc, pool, table, old, tip),
+        Some(old) if !state.forces => is_fast_forward(state.alloc, ancestry, old, tip),
         _ => Ok(true),
     }
 }
 
 // Adds the change that one branch makes, or the line that its ref is kept.
 fn add_branch<N: Naming>(
-    pool: &Pool<N>,
-    table: &Table,
+    ancestry: &mut Ancestry<'_, N>,
     refs: &Refs,
     state: &StreamState,
     branch: (&RefName, &Tip),
     saving: &mut Saving,
 ) -> Result<(), Fault>
-    requires { IsBackedBy N.digest_of pool.now table.now.entries }
-    ensures saved { AreObjects N.digest_of (objects pool.now table.now.entries) → OnOk result
-        (let workspace = workspace_in (state_shown state.now) pool.now table.now refs.now in
+    ensures saved { AreObjects N.digest_of ancestry.old → (pool : Cells) (table : View)
+        → ancestry.old ≡ objects pool table.entries → OnOk result
+        (let workspace = workspace_in (state_shown state.now) pool table refs.now in
         (with_changes refs.now saving.new.changes.items ≡ saved_by workspace
         (with_changes refs.now saving.old.changes.items) branch.entry.0.now branch.entry.1.now)
         × (saving.new.kept.items ≡ saving.old.kept.items
         ++ kept_by workspace branch.entry.0.now branch.entry.1.now)) }
     ensures refused { IfErr result (λ fault. fault ≡ Fault.Memory) }
+    ensures same { ancestry.new ≡ ancestry.old }
 {
     let (ref_name, tip) = branch;
     match tip {
         Tip::Unborn => Ok(()),
         Tip::Deleted => add_change(state.alloc, ref_name, None, &mut saving.changes),
         Tip::At(tip) => {
-            if moves(pool, table, refs, state, ref_name, tip)? {
+            if moves(ancestry, refs, state, ref_name, tip)? {
                 return add_change(state.alloc, ref_name, Some(*tip), &mut saving.changes);
             }
             Ok(print_kept(ref_name, &mut saving.kept)?)
@@ -76,15 +79,14 @@ fn add_branch<N: Naming>(
 
 // Adds the change or the line of each branch.
 fn add_branches<N: Naming>(
-    pool: &Pool<N>,
-    table: &Table,
+    ancestry: &mut Ancestry<'_, N>,
     refs: &Refs,
     state: &StreamState,
     saving: &mut Saving,
 ) -> Result<(), Fault>
-    requires { IsBackedBy N.digest_of pool.now table.now.entries }
-    ensures saved { AreObjects N.digest_of (objects pool.now table.now.entries) → OnOk result
-        (let workspace = workspace_in (state_shown state.now) pool.now table.now refs.now in
+    ensures saved { AreObjects N.digest_of ancestry.old → (pool : Cells) (table : View)
+        → ancestry.old ≡ objects pool table.entries → OnOk result
+        (let workspace = workspace_in (state_shown state.now) pool table refs.now in
         (with_changes refs.now saving.new.changes.items ≡ by_branches workspace
         (with_changes refs.now saving.old.changes.items) workspace.stream.branches)
         × (saving.new.kept.items
@@ -93,7 +95,7 @@ fn add_branches<N: Naming>(
 {
     for place in 0..state.branches.len() {
         let branch = state.branches.at(place).unwrap();
-        add_branch(pool, table, refs, state, branch, saving)?;
+        add_branch(ancestry, refs, state, branch, saving)?;
     }
     Ok(())
 }
@@ -118,7 +120,8 @@ fn saving_of<N: Naming>(
         changes: Vec::new(state.alloc),
         kept: Vec::new(state.alloc),
     };
-    add_branches(pool, table, refs, state, &mut saving)?;
+    let mut ancestry = Ancestry::of(Objects::of(pool, table, Sight::All));
+    add_branches(&mut ancestry, refs, state, &mut saving)?;
     add_tags(state.alloc, &state.tags, &mut saving.changes)?;
     Ok(saving)
 }

@@ -1,7 +1,7 @@
 //! Commit-ishes: git-fast-import(1), "from".
 //!
 //! A commit-ish is looked up among the stream's marks and branches, all objects so far and the refs
-//! as last saved. Nothing here changes them.
+//! as last saved. Nothing here changes them. The state keeps the commits of a walk for the next one.
 
 ghost use Rattle.std.specs.Prelude.{◌≡◌};
 ghost use Rattle.git_model.specs.GoodRepository.{AreObjects};
@@ -13,6 +13,7 @@ ghost use Rattle.stream_grammar.specs.Names.{Expression};
 ghost use Rattle.stream_grammar.specs.Shown.{commit_shown};
 ghost use Rattle.stream_parts.specs.Faults.{Gives};
 ghost use Rattle.stream_commands.specs.CommitIshes.{commit_in, is_branch, named_in, start_in};
+ghost use Rattle.stream_commands.specs.Held.{ChainStands};
 ghost use Rattle.stream_commands.specs.State.{state_shown, workspace_in};
 
 use crate::state::StreamState;
@@ -31,18 +32,22 @@ fn words_named<N: Naming>(
     pool: &Pool<N>,
     table: &Table,
     refs: &Refs,
-    state: &StreamState,
+    state: &mut StreamState,
     words: &[u8],
 ) -> Result<Name, Fault>
-    requires { IsBackedBy N.digest_of pool.now table.now.entries }
-    ensures { AreObjects N.digest_of (objects pool.now table.now.entries) → Gives result
-        (named_in (workspace_in (state_shown state.now) pool.now table.now refs.now)
+    requires stands { IsBackedBy N.digest_of pool.now table.now.entries }
+    requires chain { ChainStands (objects pool.now table.now.entries) state.old.chain }
+    ensures named { AreObjects N.digest_of (objects pool.now table.now.entries) → Gives result
+        (named_in (workspace_in (state_shown state.old) pool.now table.now refs.now)
         (Expression words.now)) }
+    ensures same { state_shown state.new
+        ≡ record (state_shown state.old) { chain = state.new.chain } }
+    ensures chain { ChainStands (objects pool.now table.now.entries) state.new.chain }
 {
     let name = meant(&state.head, refs, words);
     match state.branches.tip_of(state.alloc, name)? {
         Some(tip) => commit_at(tip),
-        None => resolve_words(state.alloc, pool, table, refs, words),
+        None => { resolve_words(state.alloc, pool, table, refs, &mut state.chain, words) }
     }
 }
 
@@ -58,13 +63,17 @@ pub fn named<N: Naming>(
     pool: &Pool<N>,
     table: &Table,
     refs: &Refs,
-    state: &StreamState,
+    state: &mut StreamState,
     commit: &CommitIsh<'_>,
 ) -> Result<Name, Fault>
-    requires { IsBackedBy N.digest_of pool.now table.now.entries }
-    ensures { AreObjects N.digest_of (objects pool.now table.now.entries) → Gives result
-        (named_in (workspace_in (state_shown state.now) pool.now table.now refs.now)
+    requires stands { IsBackedBy N.digest_of pool.now table.now.entries }
+    requires chain { ChainStands (objects pool.now table.now.entries) state.old.chain }
+    ensures named { AreObjects N.digest_of (objects pool.now table.now.entries) → Gives result
+        (named_in (workspace_in (state_shown state.old) pool.now table.now refs.now)
         (commit_shown commit.now)) }
+    ensures same { state_shown state.new
+        ≡ record (state_shown state.old) { chain = state.new.chain } }
+    ensures chain { ChainStands (objects pool.now table.now.entries) state.new.chain }
 {
     match commit {
         CommitIsh::Mark(mark) => marks::find(&state.marks, *mark),
@@ -80,13 +89,17 @@ pub fn commit_named<N: Naming>(
     pool: &Pool<N>,
     table: &Table,
     refs: &Refs,
-    state: &StreamState,
+    state: &mut StreamState,
     commit: &CommitIsh<'_>,
 ) -> Result<Name, Fault>
-    requires { IsBackedBy N.digest_of pool.now table.now.entries }
-    ensures { AreObjects N.digest_of (objects pool.now table.now.entries) → Gives result
-        (commit_in (workspace_in (state_shown state.now) pool.now table.now refs.now)
+    requires stands { IsBackedBy N.digest_of pool.now table.now.entries }
+    requires chain { ChainStands (objects pool.now table.now.entries) state.old.chain }
+    ensures named { AreObjects N.digest_of (objects pool.now table.now.entries) → Gives result
+        (commit_in (workspace_in (state_shown state.old) pool.now table.now refs.now)
         (commit_shown commit.now)) }
+    ensures same { state_shown state.new
+        ≡ record (state_shown state.old) { chain = state.new.chain } }
+    ensures chain { ChainStands (objects pool.now table.now.entries) state.new.chain }
 {
     let id = named(pool, table, refs, state, commit)?;
     peel_to(state.alloc, pool, table, Kind::Commit, id)
@@ -112,14 +125,18 @@ pub fn start_of<N: Naming>(
     pool: &Pool<N>,
     table: &Table,
     refs: &Refs,
-    state: &StreamState,
+    state: &mut StreamState,
     ref_name: &RefName,
     from: &CommitIsh<'_>,
 ) -> Result<Name, Fault>
-    requires { IsBackedBy N.digest_of pool.now table.now.entries }
-    ensures { AreObjects N.digest_of (objects pool.now table.now.entries) → Gives result
-        (start_in (workspace_in (state_shown state.now) pool.now table.now refs.now) ref_name.now
+    requires stands { IsBackedBy N.digest_of pool.now table.now.entries }
+    requires chain { ChainStands (objects pool.now table.now.entries) state.old.chain }
+    ensures started { AreObjects N.digest_of (objects pool.now table.now.entries) → Gives result
+        (start_in (workspace_in (state_shown state.old) pool.now table.now refs.now) ref_name.now
         (commit_shown from.now)) }
+    ensures same { state_shown state.new
+        ≡ record (state_shown state.old) { chain = state.new.chain } }
+    ensures chain { ChainStands (objects pool.now table.now.entries) state.new.chain }
 {
     if is_branch(state, refs, ref_name, from) {
         return Err(Fault::BranchFromItself);

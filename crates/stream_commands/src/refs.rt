@@ -10,7 +10,7 @@ ghost use Rattle.stream_grammar.specs.Acts.{Reset, ResetFrom, Alias};
 ghost use Rattle.stream_grammar.specs.Shown.{commit_shown, ref_command_shown};
 ghost use Rattle.stream_parts.specs.Faults.{Gives};
 ghost use Rattle.stream_commands.specs.Refs.{branch_unborn, is_zeros, ref_set, tip_from};
-ghost use Rattle.stream_commands.specs.Held.{FilesStand, KeepsBranchFiles};
+ghost use Rattle.stream_commands.specs.Held.{ChainStands, FilesStand, KeepsBranchFiles};
 ghost use Rattle.stream_commands.specs.State.{state_shown, workspace_in, CarriesOut};
 
 use crate::commit_ishes::{commit_named, start_of};
@@ -67,14 +67,18 @@ fn tip_from<N: Naming>(
     pool: &Pool<N>,
     table: &Table,
     refs: &Refs,
-    state: &StreamState,
+    state: &mut StreamState,
     ref_name: &RefName,
     from: &CommitIsh<'_>,
 ) -> Result<Tip, Fault>
-    requires { IsBackedBy N.digest_of pool.now table.now.entries }
-    ensures { AreObjects N.digest_of (objects pool.now table.now.entries) → Gives result
-        (tip_from (workspace_in (state_shown state.now) pool.now table.now refs.now) ref_name.now
+    requires stands { IsBackedBy N.digest_of pool.now table.now.entries }
+    requires chain { ChainStands (objects pool.now table.now.entries) state.old.chain }
+    ensures tip { AreObjects N.digest_of (objects pool.now table.now.entries) → Gives result
+        (tip_from (workspace_in (state_shown state.old) pool.now table.now refs.now) ref_name.now
         (commit_shown from.now)) }
+    ensures same { state_shown state.new
+        ≡ record (state_shown state.old) { chain = state.new.chain } }
+    ensures chain { ChainStands (objects pool.now table.now.entries) state.new.chain }
 {
     if is_zeros(from) {
         return Ok(Tip::Deleted);
@@ -92,12 +96,13 @@ fn reset_to<N: Naming>(
     state: &mut StreamState,
     from: &CommitIsh<'_>,
 ) -> Result<(), Fault>
-    requires { IsBackedBy N.digest_of pool.now table.now.entries }
+    requires stands { IsBackedBy N.digest_of pool.now table.now.entries }
+    requires held { FilesStand (state_shown state.old) pool.now table.now }
     ensures done { (out : List ℕ) → AreObjects N.digest_of (objects pool.now table.now.entries)
         → CarriesOut (ref_set (ResetFrom (commit_shown from.now))
         (workspace_in (state_shown state.old) pool.now table.now refs.now))
         (workspace_in (state_shown state.new) pool.now table.now refs.now) out out result }
-    ensures files { KeepsBranchFiles (state_shown state.old) (state_shown state.new) }
+    ensures held { OnOk result (FilesStand (state_shown state.new) pool.now table.now) }
 {
     let branch = match state.command.take() {
         OpenCommand::Reset(branch) => branch,
@@ -118,12 +123,13 @@ fn alias<N: Naming>(
     mark: Mark,
     commit: &CommitIsh<'_>,
 ) -> Result<(), Fault>
-    requires { IsBackedBy N.digest_of pool.now table.now.entries }
+    requires stands { IsBackedBy N.digest_of pool.now table.now.entries }
+    requires held { FilesStand (state_shown state.old) pool.now table.now }
     ensures done { (out : List ℕ) → AreObjects N.digest_of (objects pool.now table.now.entries)
         → CarriesOut (ref_set (Alias mark (commit_shown commit.now))
         (workspace_in (state_shown state.old) pool.now table.now refs.now))
         (workspace_in (state_shown state.new) pool.now table.now refs.now) out out result }
-    ensures files { KeepsBranchFiles (state_shown state.old) (state_shown state.new) }
+    ensures held { OnOk result (FilesStand (state_shown state.new) pool.now table.now) }
 {
     let id = commit_named(pool, table, refs, state, commit)?;
     marks::make_room(&mut state.marks, &Some(mark))?;

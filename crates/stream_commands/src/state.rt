@@ -10,6 +10,7 @@ use crate::open_command::OpenCommand;
 use git_objects::Name;
 use kept_files::KeptFiles;
 use open_commits::OpenCommit;
+use revisions::FirstParentCache;
 use std::alloc::Global;
 use stream_marks::Marks;
 use stream_parts::branches::Branches;
@@ -30,6 +31,8 @@ pub struct StreamState {
     pub command: OpenCommand,
     /// The files of the last commits that ended, for commits that start from them.
     pub kept: KeptFiles,
+    /// The commits of a walk along first parents, for the next one.
+    pub chain: FirstParentCache,
     /// The ref that HEAD is to name, if the stream set one since the last checkpoint.
     pub head: Option<Head>,
     /// Whether refs are moved by force.
@@ -48,6 +51,7 @@ impl Drop for StreamState {
             tags,
             command,
             kept,
+            chain,
             head,
             forces: _,
             needs_done: _,
@@ -57,6 +61,7 @@ impl Drop for StreamState {
         drop(tags);
         drop(command);
         drop(kept);
+        drop(chain);
         drop(head);
     }
 }
@@ -72,6 +77,7 @@ pub fn new_state(alloc: Global) -> StreamState
         tags: Vec::new(alloc),
         command: OpenCommand::Nothing,
         kept: KeptFiles::new(alloc),
+        chain: FirstParentCache::new(alloc),
         head: None,
         forces: false,
         needs_done: false,

@@ -11,7 +11,7 @@ ghost use Rattle.stream_parts.specs.Faults.{Gives};
 ghost use Rattle.stream_commands.specs.Objects.{object_stored};
 ghost use Rattle.stream_commands.specs.Tags.{tagged};
 ghost use Rattle.stream_commands.specs.Lent.{IsUnchanged, Keeps};
-ghost use Rattle.stream_commands.specs.Held.{FilesStand};
+ghost use Rattle.stream_commands.specs.Held.{ChainStands, FilesStand};
 ghost use Rattle.stream_commands.specs.State.{state_shown, workspace_in, CarriesOut};
 
 use crate::commit_ishes::named;
@@ -36,13 +36,16 @@ fn tagged<N: Naming>(
     header: &TagHeader,
     mark: &Option<Mark>,
 ) -> Result<(Name, Kind), Fault>
-    requires { IsBackedBy N.digest_of pool.now table.now.entries }
+    requires stands { IsBackedBy N.digest_of pool.now table.now.entries }
+    requires chain { ChainStands (objects pool.now table.now.entries) state.old.chain }
     ensures tagged { AreObjects N.digest_of (objects pool.now table.now.entries) → Gives result
         (tagged mark.now header.now
         (workspace_in (state_shown state.old) pool.now table.now refs.now)) }
     ensures mark { OnOk result (0 < state.new.marks.spare) }
     ensures tag { OnOk result (length state.new.tags.items < vec_capacity state.new.tags) }
-    ensures same { state_shown state.new ≡ state_shown state.old }
+    ensures same { state_shown state.new
+        ≡ record (state_shown state.old) { chain = state.new.chain } }
+    ensures chain { ChainStands (objects pool.now table.now.entries) state.new.chain }
 {
     let Some(said) = &header.target else {
         return Err(not_open());

@@ -9,6 +9,7 @@ pub mod Refs
 pub mod Refused
 pub mod Regular
 pub mod Rows
+pub mod SameParts
 pub mod Streams
 pub mod Taken
 pub mod WellFormedActs

@@ -1,9 +1,8 @@
 -- Parts that fill the terms of a command are taken one by one, if no part may stand in two terms.
-use Rattle.std.proofs.Common.{◌≡◌, refl, sym, ◌∙◌, ap, rules, ℕ, Bool, true, false, ◌&&◌, nat_eq, IfSome, List, [], ◌∷◌, Option, Some, None}
-use Rattle.std.proofs.lemmas.Bool.{and_parts, eqb-true}
+use Rattle.std.proofs.Common.{◌≡◌, refl, sym, ◌∙◌, ap, rules, Bool, true, false, IfSome, List, [], ◌∷◌, Option, Some, None}
 use Rattle.std.specs.List.{list_any}
 use Rattle.stream_grammar.specs.declared.part.Part.{Part}
-use Rattle.stream_grammar.specs.Parts.{index_of, kind_index, same}
+use Rattle.stream_grammar.specs.Parts.{same}
 use Rattle.stream_grammar.specs.declared.part.Part.TheVariants as part
 use Rattle.stream_grammar.specs.declared.part.OpeningLine.{OpeningLine}
 use Rattle.stream_grammar.specs.declared.part.OpeningLine.TheVariants as opening
@@ -11,6 +10,7 @@ use Rattle.stream_grammar.specs.declared.part.ChangeLine.TheVariants as change
 use Rattle.stream_grammar.specs.Grammar.{Term, Often, Once, Perhaps, AnyNumber, production, production_of, accepts, is_free, used, left_after, fit}
 use Rattle.stream_grammar.specs.Whole.{Fills, nothing_left, stays_empty, is_filled, left_by, left_by_parts, AreTaken}
 use Rattle.stream_grammar.proofs.Filled.{by_test}
+use Rattle.stream_grammar.proofs.SameParts.{same-equal}
 
 -- None of the terms accepts the part.
 abbrev pub NoneAccepts : List Term → Part → Type 0
@@ -47,15 +47,9 @@ NoneAccepts-used Once term terms part none = none.1
 NoneAccepts-used Perhaps term terms part none = none.1
 NoneAccepts-used AnyNumber term terms part none = none
 
--- A term goes by a part's kind and its place there alone.
 accepts-same : (term : Term) (part other : Part) → same part other ≡ true
     → accepts term part ≡ accepts term other
-accepts-same term part other is =
-    let both = and_parts (nat_eq (kind_index part) (kind_index other)) (nat_eq (index_of part) (index_of other)) is in
-    ap (λ (kind : ℕ). list_any (λ p. nat_eq kind (kind_index p) && nat_eq (index_of part) (index_of p)) term.parts)
-    (eqb-true (kind_index part) (kind_index other) both.0)
-    ∙ ap (λ (index : ℕ). list_any (λ p. nat_eq (kind_index other) (kind_index p) && nat_eq index (index_of p)) term.parts)
-    (eqb-true (index_of part) (index_of other) both.1)
+accepts-same term part other is = ap (accepts term) (same-equal part other is)
 
 NoneAccepts-same : (terms : List Term) (part other : Part) → same part other ≡ true
     → NoneAccepts terms other → NoneAccepts terms part

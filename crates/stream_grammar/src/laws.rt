@@ -1,7 +1,7 @@
 //! Laws of the definitions that the contracts of the parser cite. Each function is empty: its
 //! contract is the law, and a call does nothing.
 
-ghost use Rattle.std.specs.Prelude.{◌≡◌, ◌<◌, ◌^◌, ◌∷◌, ◌++◌, ℕ, Bool, List, [], IfSome, codes, decimal, length, map};
+ghost use Rattle.std.specs.Prelude.{◌≡◌, ◌↔◌, ◌<◌, ◌^◌, ◌∷◌, ◌++◌, ℕ, Bool, List, [], IfSome, true, codes, decimal, length, map};
 ghost use Rattle.hex.specs.Hex.{IsBytes, encode_lower};
 ghost use Rattle.stream_lex.specs.Items as items;
 ghost use Rattle.stream_grammar.specs.declared.fault.Fault.{Fault};
@@ -9,7 +9,7 @@ ghost use Rattle.stream_grammar.specs.declared.part.Part.{Part};
 ghost use Rattle.stream_grammar.specs.Commands.{Commands, Done, Parsing, given_before, commands, done_by, end_of, top};
 ghost use Rattle.stream_grammar.specs.Commands.{Leads, after, given_by};
 ghost use Rattle.stream_grammar.specs.Grammar.{Term, production_of};
-ghost use Rattle.stream_grammar.specs.Parts.{part_of};
+ghost use Rattle.stream_grammar.specs.Parts.{part_of, same};
 ghost use Rattle.stream_grammar.specs.Texts.{dataref_of, mark_of};
 ghost use Rattle.stream_grammar.specs.WellFormed.{IsWellFormed};
 ghost use Rattle.stream_grammar.specs.Whole.{AreCommands, ArePlaced, AreTaken, Fills, FindsPlace};
@@ -58,6 +58,11 @@ pub fn whole_streams()
     ensures filled { (stream : List items.Item) (ends_commit : Bool)
         → end_of (commands (Ok top) stream).rest ≡ Ok ends_commit
         → AreCommands (map part_of stream) }
+{}
+
+/// The numbers by which two parts are told to be one are those of no other part.
+pub fn same_parts()
+    ensures { (part other : Part) → same part other ≡ true ↔ part ≡ other }
 {}
 
 /// A mark that is written in decimal digits is read as it was written.

@@ -5,19 +5,15 @@ ghost use Rattle.std.specs.Prelude.{◌≡◌, ◌≢◌, ◌++◌, ◌∷◌, [
 ghost use Rattle.git_model.specs.GoodRepository.{AreObjects, refs_limit};
 ghost use Rattle.git_model.specs.RefStore.{listed_refs, RefStore};
 ghost use Rattle.tenant_refs.specs.Changes.{with_changes};
-ghost use Rattle.tenant_tables.specs.Objects.{objects};
-ghost use Rattle.tenant_tables.specs.IsBackedBy.{IsBackedBy};
 ghost use Rattle.stream_parts.specs.Checkpoints.{by_head, by_tags, is_fast_forward};
 
 use crate::fault::Fault;
 use crate::head::Head;
-use commit_walk::reaches;
-use content_pool::Pool;
+use commit_walk::Ancestry;
 use git_objects::{Kind, Name, Naming};
 use revisions::peel;
 use std::alloc::Global;
 use tenant_refs::{ChangesFault, RefChange, RefName, Refs};
-use tenant_tables::{Objects, Sight, Table};
 
 /// How many refs a repository may have.
 pub const REFS_LIMIT: usize = 65_536;
@@ -31,21 +27,22 @@ pub struct Saving {
 }
 
 /// Whether the new tip reaches the commit that the old value of a ref is peeled to.
+///
+/// `ancestry` remembers what was found, for the next question. `Fault::Memory` (90) if there is no
+/// room for a walk.
 pub fn is_fast_forward<N: Naming>(
     alloc: Global,
-    pool: &Pool<N>,
-    table: &Table,
+    ancestry: &mut Ancestry<'_, N>,
     old: Name,
     tip: &Name,
 ) -> Result<bool, Fault>
-    requires { IsBackedBy N.digest_of pool.now table.now.entries }
-    ensures judged { let os = objects pool.now table.now.entries in AreObjects N.digest_of os
-        → IfOk result (λ yes. yes ≡ is_fast_forward os old tip.now) }
+    ensures judged { AreObjects N.digest_of ancestry.old
+        → IfOk result (λ yes. yes ≡ is_fast_forward ancestry.old old tip.now) }
     ensures refused { IfErr result (λ fault. fault ≡ Fault.Memory) }
+    ensures same { ancestry.new ≡ ancestry.old }
 {
-    let objects = Objects::of(pool, table, Sight::All);
-    match peel(alloc, &objects, Kind::Commit, old) {
-        Ok(commit) => Ok(reaches(alloc, pool, table, tip, &commit)?),
+    match peel(alloc, ancestry.objects(), Kind::Commit, old) {
+        Ok(commit) => Ok(ancestry.reaches(alloc, tip, &commit)?),
         Err(revisions::Fault::Memory) => Err(Fault::Memory),
         Err(_) => Ok(false),
     }

@@ -4,8 +4,10 @@ ghost use Rattle.std.specs.Prelude.{◌≡◌};
 ghost use Rattle.git_model.specs.GoodRepository.{AreObjects};
 ghost use Rattle.tenant_tables.specs.Objects.{objects};
 ghost use Rattle.tenant_tables.specs.IsBackedBy.{IsBackedBy};
+ghost use Rattle.revisions.specs.FirstParents.{IsFirstParentChain};
 ghost use Rattle.revisions.specs.Resolution.{peeled, resolved};
 ghost use Rattle.stream_parts.specs.declared.fault.Fault.TheVariants as fault;
+ghost use Rattle.revisions.specs.Faults.{Gives as Names};
 ghost use Rattle.stream_parts.specs.Faults.{or_fault, resolved_or, resolving_fault, Gives};
 ghost use Rattle.stream_parts.specs.Branches.{commit_at};
 
@@ -13,7 +15,7 @@ use crate::branches::Tip;
 use crate::fault::Fault;
 use content_pool::Pool;
 use git_objects::{Kind, Name, Naming};
-use revisions::{peel, resolve};
+use revisions::{Expression, FirstParentCache, peel, resolve_expression};
 use std::alloc::Global;
 use tenant_refs::Refs;
 use tenant_tables::{Objects, Sight, Table};
@@ -59,20 +61,45 @@ pub fn peel_to<N: Naming>(
     passed_on(peel(alloc, &objects, wanted, id))
 }
 
+// What an expression names. The chain keeps the commits of a walk along first parents.
+fn resolve<N: Naming>(
+    alloc: Global,
+    pool: &Pool<N>,
+    table: &Table,
+    refs: &Refs,
+    chain: &mut FirstParentCache,
+    words: &[u8],
+) -> Result<Name, revisions::Fault>
+    requires { IsBackedBy N.digest_of pool.now table.now.entries }
+    ensures found { let os = objects pool.now table.now.entries in AreObjects N.digest_of os
+        → IsFirstParentChain os chain.old → Names result (resolved os refs.now words.now) }
+    ensures chain { let os = objects pool.now table.now.entries in AreObjects N.digest_of os
+        → IsFirstParentChain os chain.old → IsFirstParentChain os chain.new }
+{
+    let expression = Expression::read(alloc, words)?;
+    let objects = Objects::of(pool, table, Sight::All);
+    resolve_expression(alloc, &objects, refs, chain, &expression)
+}
+
 /// What an expression names among all objects so far and the refs as last saved:
-/// gitrevisions(7). Each fault of `revisions` is passed on under the stream's number.
+/// gitrevisions(7). Each fault of `revisions` is passed on under the stream's number. The next call
+/// can use the chain that this one leaves, also if objects were added in between.
 pub fn resolve_words<N: Naming>(
     alloc: Global,
     pool: &Pool<N>,
     table: &Table,
     refs: &Refs,
+    chain: &mut FirstParentCache,
     words: &[u8],
 ) -> Result<Name, Fault>
     requires { IsBackedBy N.digest_of pool.now table.now.entries }
-    ensures { let os = objects pool.now table.now.entries in AreObjects N.digest_of os
+    ensures found { let os = objects pool.now table.now.entries in AreObjects N.digest_of os
+        → IsFirstParentChain os chain.old
         → Gives result (resolved_or (resolved os refs.now words.now)) }
+    ensures chain { let os = objects pool.now table.now.entries in AreObjects N.digest_of os
+        → IsFirstParentChain os chain.old → IsFirstParentChain os chain.new }
 {
-    passed_on(resolve(alloc, pool, table, Sight::All, refs, words))
+    passed_on(resolve(alloc, pool, table, refs, chain, words))
 }
 
 /// The commit that a branch is at.

@@ -203,7 +203,7 @@ between_is first last id =
 abbrev pub indexed : Bool → Entries → ℕ → Entries
 indexed all es committed = if all then es else take committed es
 
-in_index : (all : Bool) (es : Entries) (index : IndexView) (committed : ℕ)
+pub in_index : (all : Bool) (es : Entries) (index : IndexView) (committed : ℕ)
     → IsIndexed es index committed
     → IsPermutation (in_sight all index) (names (indexed all es committed))
 in_index true es index committed h =

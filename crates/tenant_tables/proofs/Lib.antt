@@ -11,6 +11,7 @@ pub mod TreeTexts
 pub mod AddLemmas
 pub mod Abbreviations
 pub mod FoundLemmas
+pub mod SharedDigits
 pub mod StoredGood
 pub mod InSight
 pub mod Positions

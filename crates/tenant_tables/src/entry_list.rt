@@ -8,7 +8,7 @@ ghost use Rattle.std.specs.Str.{bytes_eq};
 ghost use Rattle.git_model.specs.ObjectName.{object_name};
 ghost use Rattle.git_model.specs.Content.{content_from};
 ghost use Rattle.content_pool.specs.Pool.{HasHoldsLeft, Puts};
-ghost use Rattle.name_index.specs.Index.{is_between};
+ghost use Rattle.name_index.specs.Index.{is_between, most_shared};
 ghost use Rattle.tenant_tables.specs.Abbreviation.{found_among, only_of};
 ghost use Rattle.tenant_tables.specs.View.{names, entry_named};
 
@@ -20,7 +20,7 @@ use content_pool::{Pool, Slot};
 use git_model::Kind;
 use git_names::{Memory, Name, Naming, has_twenty_bytes};
 use indexmap::IndexMap;
-use name_index::{Between, NameIndex};
+use name_index::{Between, NameIndex, shared_apart};
 use std::alloc::Global;
 use std::borrow::CowSlice;
 use std::marker::Model;
@@ -203,6 +203,37 @@ impl EntryList {
             }
         }
         found
+    }
+
+    /// The most leading digits that a name other than `id` shares with it, of the first `count`
+    /// names. Takes no memory.
+    ///
+    /// The index answers for all names and for the committed ones. Else the names are compared one
+    /// by one.
+    pub fn most_shared(&self, id: &Name, count: usize) -> usize
+        ensures { result ≡ most_shared id.now (names (take count self.now.entries)) }
+    {
+        if count == self.committed {
+            return self.names.most_shared(id, false);
+        }
+        if count >= self.objects.len() {
+            return self.names.most_shared(id, true);
+        }
+        self.most_among_first(id, count)
+    }
+
+    // The most digits shared by the first `count` names, one by one.
+    fn most_among_first(&self, id: &Name, count: usize) -> usize
+        ensures { result ≡ most_shared id.now (names (take count self.now.entries)) }
+    {
+        let mut most = 0;
+        for place in 0..count {
+            let Some(entry) = self.at(place) else {
+                return most;
+            };
+            most = most.max(shared_apart(id, &entry.0));
+        }
+        most
     }
 
     /// Adds an entry at the end, under a name that is not there. `Memory` if an allocation fails;

@@ -4,6 +4,7 @@ ghost use Rattle.std.specs.Prelude.{◌≡◌, ◌<◌, [], length, take, positi
 ghost use Rattle.std.specs.List.{IsDistinct};
 ghost use Rattle.std.specs.Option.{option_map};
 ghost use Rattle.std.specs.Str.{bytes_eq};
+ghost use Rattle.name_index.specs.Index.{most_shared};
 ghost use Rattle.tenant_tables.specs.Abbreviation.{found_among};
 ghost use Rattle.tenant_tables.specs.View.{names, entry_named};
 
@@ -120,5 +121,15 @@ impl Front {
             return Found::None;
         };
         list.starting_with(digits, self.count)
+    }
+
+    /// The most leading digits that another of these names shares with `id`. Takes no memory.
+    pub fn most_shared(&self, id: &Name) -> usize
+        ensures { result ≡ most_shared id.now (names self.now) }
+    {
+        let Some(list) = &self.list else {
+            return 0;
+        };
+        list.most_shared(id, self.count)
     }
 }

@@ -8,6 +8,7 @@ ghost use Rattle.std.specs.Prelude.{◌≡◌, length, map, is_some};
 ghost use Rattle.std.specs.Option.{option_map};
 ghost use Rattle.git_model.specs.Content.{content_from};
 ghost use Rattle.git_model.specs.Repository.{object_named};
+ghost use Rattle.name_index.specs.Index.{most_shared};
 ghost use Rattle.tenant_tables.specs.Abbreviation.{found_among};
 ghost use Rattle.tenant_tables.specs.Objects.{objects};
 ghost use Rattle.tenant_tables.specs.IsBackedBy.{IsBackedBy};
@@ -94,5 +95,13 @@ impl<'a, N: Naming> Objects<'a, N> {
         ensures { result ≡ found_among digits.now (map (λ o. o.id) self.now) }
     {
         self.table.starting_with(digits, self.sight)
+    }
+
+    /// The most leading hexadecimal digits that a name other than `id` shares with it; 0 if there is
+    /// no other. Takes no memory.
+    pub fn most_shared(&self, id: &Name) -> usize
+        ensures { result ≡ most_shared id.now (map (λ o. o.id) self.now) }
+    {
+        self.table.most_shared(id, self.sight)
     }
 }

@@ -16,6 +16,7 @@ ghost use Rattle.tenant_tables.specs.Objects.{objects};
 ghost use Rattle.tenant_tables.specs.IsBackedBy.{IsBackedBy, PreservesOthers};
 ghost use Rattle.tenant_tables.specs.Adding.{Answers, store_fault, Adds, Pushes, PushesAt};
 ghost use Rattle.tenant_tables.specs.Trees.{FitsTree, SummedAfter};
+ghost use Rattle.name_index.specs.Index.{most_shared};
 ghost use Rattle.tenant_tables.specs.Abbreviation.{found_among};
 
 use crate::entry::Entry;
@@ -204,6 +205,19 @@ impl Table {
             shared,
             self.own.starting_with(digits, seen - self.front.len()),
         )
+    }
+
+    /// The most leading hexadecimal digits that a name in sight, other than `id`, shares with it; 0
+    /// if there is no other. The lookup uses the ordered index of the names. Takes no memory.
+    pub fn most_shared(&self, id: &Name, sight: Sight) -> usize
+        ensures { result ≡ most_shared id.now (names (in_sight sight self.now)) }
+    {
+        let seen = match sight {
+            Sight::All => self.len(),
+            Sight::Committed => self.committed_len(),
+        };
+        let shared = self.front.most_shared(id);
+        shared.max(self.own.most_shared(id, seen - self.front.len()))
     }
 
     /// Adds the object of this kind, which is not a tree, with these contents, and answers its

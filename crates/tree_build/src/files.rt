@@ -101,8 +101,7 @@ impl Files {
     /// the count anew, and it stays at `u64::MAX` once it gets there.
     ///
     /// An edit or `store` counts at most as many trees as its paths have components: its clause
-    /// `few` says so. A tree is counted before it is read, so the count includes a read that runs
-    /// out of memory.
+    /// `few` says so. No clause says whether a read that runs out of memory is counted.
     pub fn reads(&self) -> u64
         ensures { result ≡ self.now.reads }
     {

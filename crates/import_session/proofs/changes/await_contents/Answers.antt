@@ -26,4 +26,5 @@ pub returns-clause-files : goal.returns-clause-files
 returns-clause-files c os holds = record {
   command = rw c.open.ensures (rw c.in_ok-commit.ensures.taken at holds.command);
   kept = holds.kept;
+  chain = holds.chain;
 }

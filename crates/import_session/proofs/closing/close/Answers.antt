@@ -27,4 +27,5 @@ returns-in-Changes-clause-held g c = where_ok c.keep_files.result (record {
   kept = c.keep_files.ensures.branches
       (objects c.close_commit-closed.new.pool c.close_commit-closed.new.table.entries)
       (c.close_commit-closed.ensures.kept c.requires.held.kept) c.close_commit-closed.ensures.held;
+  chain = c.close_commit-closed.ensures.chain c.requires.held.chain;
 })

@@ -1,9 +1,11 @@
 use Rattle.std.proofs.Common.{ap}
 use Rattle.std.proofs.lemmas.Result.{err_from_is_err_and}
+use Rattle.tenant_tables.specs.Objects.{objects}
 use Rattle.stream_grammar.specs.Shown.{commit_shown}
+use Rattle.open_commits.specs.OpenCommit.{commit_held}
 use Rattle.import_session.specs.Commits.{commit_merged, commit_said}
 use Rattle.stream_commands.specs.State.{command_shown, state_shown, workspace_in}
-use Rattle.import_session.proofs.CommitLemmas.{not_changing, put_back}
+use Rattle.import_session.proofs.CommitLemmas.{held_with, left_with, not_changing, put_back}
 use Rattle.import_session.proofs.commits.merge_open.Goals as goal
 
 pub returns-in_err-commit-clause-done : goal.returns-in_err-commit-clause-done
@@ -18,8 +20,21 @@ unfolding commit_said
 returns-clause-done g c out good =
     let workspace = workspace_in (state_shown c.args.state.now) c.args.pool.now c.args.table.now
     c.args.refs.now in
-    put_back (state_shown c.args.state.now) (state_shown c.keep_open.new.state) c.args.pool.now
+    put_back (record (state_shown c.args.state.now) { chain = c.merge-changed.new.state.chain })
+    (state_shown c.keep_open.new.state) c.args.pool.now
     c.args.table.now c.args.refs.now (commit_merged workspace (commit_shown c.args.other.now))
     c.in_ok-commit.commit c.merge-changed.new.commit out
-    c.merge-changed.result (ap command_shown c.in_ok-commit.ensures.taken) c.keep_open.ensures
+    c.merge-changed.result (ap command_shown c.in_ok-commit.ensures.taken)
+    (left_with (state_shown c.args.state.now) (state_shown c.merge-changed.new.state)
+    (state_shown c.keep_open.new.state) _ (commit_held c.merge-changed.new.commit) c.merge-changed.new.state.chain
+    c.merge-changed.ensures.same c.keep_open.ensures)
     (c.merge-changed.ensures.done good)
+
+pub returns-clause-held : goal.returns-clause-held
+returns-clause-held g c =
+    held_with (objects c.args.pool.now c.args.table.now.entries) (state_shown c.args.state.now)
+    (state_shown c.keep_open.new.state) (commit_held c.merge-changed.new.commit) c.merge-changed.new.state.chain
+    c.merge-changed.result c.requires.held.kept c.merge-changed.ensures.chain c.merge-changed.ensures.held
+    (left_with (state_shown c.args.state.now) (state_shown c.merge-changed.new.state)
+    (state_shown c.keep_open.new.state) _ (commit_held c.merge-changed.new.commit) c.merge-changed.new.state.chain
+    c.merge-changed.ensures.same c.keep_open.ensures)

@@ -6,7 +6,7 @@ use Rattle.stream_parts.specs.OpenCommand.{command_with}
 use Rattle.stream_commands.specs.declared.open_command.OpenCommand.{OpenCommand as LentCommand}
 use Rattle.stream_commands.specs.State.{StreamState, command_shown, state_shown, workspace_in, CarriesOut}
 use Rattle.import_session.specs.Commits.{commit_opened, commit_said}
-use Rattle.stream_commands.specs.Held.{HoldsFiles}
+use Rattle.stream_commands.specs.Held.{ChainStands, HoldsFiles}
 use Rattle.import_session.proofs.CommitLemmas.{opened_refused, opened_well, without_command}
 use Rattle.import_session.proofs.opening.open_commit.Goals as goal
 
@@ -47,4 +47,9 @@ returns-clause-done g c out sound =
 pub returns-clause-held : goal.returns-clause-held
 returns-clause-held g c =
     subst (HoldsFiles (objects c.args.pool.now c.args.table.now.entries)) (sym c.keep_open.ensures)
-    (record { command = c.in_ok-commit.ensures.held; kept = c.in_ok-commit.ensures.kept })
+    (record {
+      command = c.in_ok-commit.ensures.held;
+      kept = c.in_ok-commit.ensures.kept;
+      chain = subst (ChainStands (objects c.args.pool.now c.args.table.now.entries))
+          (sym (ap (λ (state : StreamState). state.chain) c.in_ok-commit.ensures.state)) c.requires.held.chain;
+    })

@@ -1,12 +1,9 @@
-use Rattle.std.proofs.Common.{◌≡◌, map, take}
-use Rattle.tenant_tables.specs.Objects.{objects}
-use Rattle.pool_file.specs.Lent.{raw_contents}
-use Rattle.pool_file.specs.Slots.{AreKnown, raw_number}
+use Rattle.std.proofs.Common.{◌≡◌, map}
+use Rattle.std.specs.Prelude.{slice_index}
+use Rattle.pool_file.proofs.TenantSlots.{first_slots}
 use Rattle.pool_file.proofs.numbers.numbers_of.Given as goal
 
--- The numbers are those of the objects before the place of the loop, and all that are known are
--- right.
+-- The numbers are those of the slots before the place of the loop.
 abbrev pub invariant-loop-place : goal.invariant-loop-place
-invariant-loop-place g l = AreKnown l.pool l.contents l.known
-    × (l.numbers.items ≡ map (raw_number l.contents)
-    (raw_contents (take l.place (objects l.pool l.tenant.table.now.entries))))
+invariant-loop-place l = l.numbers.items
+    ≡ map (λ s. slice_index l.by_slot s) (first_slots l.tenant.table.now.entries l.place)

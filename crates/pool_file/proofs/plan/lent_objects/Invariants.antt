@@ -4,6 +4,6 @@ use Rattle.pool_file.specs.Lent.{objects_lent}
 use Rattle.pool_file.proofs.plan.lent_objects.Given as goal
 
 -- The objects are those before the place of the loop.
-abbrev pub invariant-loop-content : goal.invariant-loop-content
-invariant-loop-content l = map lent_object_of l.objects.items
-    ≡ objects_lent (take l.content-index l.contents)
+abbrev pub invariant-loop-listed : goal.invariant-loop-listed
+invariant-loop-listed l = map lent_object_of l.objects.items
+    ≡ objects_lent (take l.listed-index l.contents)

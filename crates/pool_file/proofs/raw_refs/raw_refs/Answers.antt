@@ -3,7 +3,7 @@ use Rattle.git_model.specs.RefStore.{listed_refs}
 use Rattle.tenant_refs.specs.FullName.{namespaces}
 use Rattle.pool_file.specs.Worth.{named_in}
 use Rattle.pool_file.proofs.Placed.{refs_more, ref_is}
-use Rattle.pool_file.proofs.Collected.{stands_there}
+use Rattle.pool_file.proofs.TenantSlots.{stands_there}
 use Rattle.pool_file.proofs.raw_refs.raw_refs.Goals as goal
 
 pub loop-position-preserved : goal.loop-position-preserved

@@ -13,7 +13,7 @@ returns-in-Blob-clause-held g c =
     let state = state_shown c.args.state.now in
     still_held c.store_marked.result
     (objects c.store_marked.new.pool c.store_marked.new.table.entries) state _
-    (λ os holds. record { command = holds.command; kept = holds.kept }) (c.store_marked.ensures.held state c.requires.held)
+    (λ os holds. record { command = holds.command; kept = holds.kept; chain = holds.chain }) (c.store_marked.ensures.held state c.requires.held)
 
 pub returns-in-BeginTag-clause-held : goal.returns-in-BeginTag-clause-held
 returns-in-BeginTag-clause-held g c =

@@ -15,15 +15,5 @@ returns-in-Reset-clause-held g c =
 pub returns-in-ResetFrom-clause-done : goal.returns-in-ResetFrom-clause-done
 returns-in-ResetFrom-clause-done g c out good = rw c.in-ResetFrom.is (c.reset_to.ensures.done out good)
 
-pub returns-in-ResetFrom-clause-held : goal.returns-in-ResetFrom-clause-held
-returns-in-ResetFrom-clause-held g c =
-    still_held c.reset_to.result (objects c.args.pool.now c.args.table.now.entries)
-    (state_shown c.args.state.now) (state_shown c.reset_to.new.state) c.reset_to.ensures.files c.requires.held
-
 pub returns-in-Alias-clause-done : goal.returns-in-Alias-clause-done
 returns-in-Alias-clause-done g c out good = rw c.in-Alias.is (c.alias.ensures.done out good)
-
-pub returns-in-Alias-clause-held : goal.returns-in-Alias-clause-held
-returns-in-Alias-clause-held g c =
-    still_held c.alias.result (objects c.args.pool.now c.args.table.now.entries)
-    (state_shown c.args.state.now) (state_shown c.alias.new.state) c.alias.ensures.files c.requires.held

@@ -24,4 +24,4 @@ returns-in_err-tip-clause-done g c out good =
         command = Nothing;
       };
     }))
-    _ out out c.in_err-tip.field-0.0 (c.in_err-tip.ensures good))
+    _ out out c.in_err-tip.field-0.0 (c.in_err-tip.ensures.tip good))

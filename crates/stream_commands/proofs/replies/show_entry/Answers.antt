@@ -2,6 +2,7 @@ use Rattle.std.proofs.Common.{arith, rules}
 use Rattle.std.proofs.lemmas.Grind.{common_steps}
 use Rattle.stream_commands.specs.Replies.{replied}
 use Rattle.stream_commands.proofs.CommittedLemmas.{committed_stay}
+use Rattle.stream_commands.proofs.ChainLemmas.{chain_stands}
 use Rattle.stream_commands.proofs.HeldLemmas.{kept_stand}
 use Rattle.stream_commands.proofs.replies.show_entry.Goals as goal
 
@@ -33,4 +34,6 @@ returns-clause-held g c = record {
   command = c.show_entry.ensures.held;
   kept = kept_stand c.args.pool.now c.args.table.now c.show_entry.new.pool c.show_entry.new.table
       c.show_entry.ensures.adds c.args.state.now.kept c.requires.held.kept;
+  chain = chain_stands c.args.pool.now c.args.table.now c.show_entry.new.pool c.show_entry.new.table
+      c.show_entry.ensures.adds c.args.state.now.chain c.requires.held.chain;
 }

@@ -46,15 +46,16 @@ returns-clause-done g c out good =
     let kind = c.in-Ok.tagged.1 in
     let tag = tag_content header c.args.message.now target kind in
     let stored = c.in-Ok-stored.ensures.stores in
-    let left : state_shown c.tagged.new.state ≡ state_with state Nothing =
+    let now = record state { chain = c.tagged.new.state.chain } in
+    let left : state_shown c.tagged.new.state ≡ state_with now Nothing =
     c.tagged.ensures.same
-    ∙ ap (λ (command : LentCommand). state_with state (command_shown command)) c.take.ensures.after in
+    ∙ ap (λ (command : LentCommand). state_with now (command_shown command)) c.take.ensures.after in
     let pushed : is_ok c.push.result ≡ true = search rules in
     let tags = rw pushed at c.push.ensures.items in
     rw (sym c.take.ensures.taken, c.in-Tag.is)
     (tag_kept digest c.args.mark c.args.message.now header w _ out target kind
     (objects pool table.entries) (c.in-Ok.ensures.tagged good) stored.objects
-    (tag_left state (state_shown c.tagged.new.state) c.args.mark header.ref_name c.in-Ok-stored.id
+    (tag_left now (state_shown c.tagged.new.state) c.args.mark header.ref_name c.in-Ok-stored.id
     (name_by digest tag) c.set.new.marks.entries c.push.new.self.items c.args.pool.now
     c.args.table.now pool table c.args.refs.now left c.set.ensures tags
     stored.name stored.committed))
@@ -64,11 +65,13 @@ returns-clause-held g c =
     let state = state_shown c.args.state.now in
     let more = objects c.store_written-stored.new.pool c.store_written-stored.new.table.entries in
     let tag = tag_content c.in-Tag.header c.args.message.now c.in-Ok.tagged.0 c.in-Ok.tagged.1 in
-    let left : state_shown c.tagged.new.state ≡ state_with state Nothing =
+    let now = record state { chain = c.tagged.new.state.chain } in
+    let left : state_shown c.tagged.new.state ≡ state_with now Nothing =
     c.tagged.ensures.same
-    ∙ ap (λ (command : LentCommand). state_with state (command_shown command)) c.take.ensures.after in
+    ∙ ap (λ (command : LentCommand). state_with now (command_shown command)) c.take.ensures.after in
     let grown = files_grown g.N.Naming.digest_of tag
     (objects c.args.pool.now c.args.table.now.entries) more c.in-Ok-stored.ensures.stores.objects
-    (state_with state Nothing) (record { command = tt; kept = c.requires.held.kept }) in
+    (state_with now Nothing)
+    (record { command = tt; kept = c.requires.held.kept; chain = c.tagged.ensures.chain }) in
     let stands = subst (HoldsFiles more) (sym left) grown in
-    record { command = stands.command; kept = stands.kept }
+    record { command = stands.command; kept = stands.kept; chain = stands.chain }

@@ -1,7 +1,7 @@
 use Rattle.std.proofs.Common.{length, sym, ap, ◌∙◌}
 use Rattle.git_model.specs.Content.{Content}
 use Rattle.tenant_tables.proofs.Positions.{told_live}
-use Rattle.pool_file.proofs.Collected.{before_end, told_there}
+use Rattle.pool_file.proofs.TenantSlots.{before_end, told_there}
 use Rattle.tenant_service.specs.Sizes.{own_size, size}
 use Rattle.tenant_service.specs.Tenants.{holds_of}
 use Rattle.tenant_service.proofs.SizeLemmas.{own-elsewhere, own-here, total-kept, total-told}
