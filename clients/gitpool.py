@@ -9,8 +9,8 @@
 
 A Service is one run of `gitpool host` over one pool file. It loads the whole file when it starts and saves it when its
 input ends, so `close` is what makes changes last and `kill` is what gives them up. If the server gitpoold keeps the pool
-file, the Service is a connection to it: it loads nothing, and an `end` lasts from its answer on. docs/FORMATS.md has the
-frames.
+file, the Service is a connection to it: it loads nothing, and an `end` lasts from its answer on. So does one of
+`Service("ssh://USER@HOST/TENANT")`, which reaches one tenant of a gitpoold elsewhere. docs/FORMATS.md has the frames.
 
 Object names are `str` of 40 hexadecimal digits. Tenants, refs, paths, queries and contents are `bytes`, for none of
 them need be UTF-8; where a tenant or a query is asked for, a `str` is taken too. Sizes are bytes. A Service belongs to one
@@ -26,8 +26,8 @@ from typing import Callable, Iterable, Iterator, List, Optional, Sequence, Tuple
 from gitpool_calls import Calls, pieces_of
 from gitpool_frames import (ANSWER_HEAD, LONGEST_BODY, PIECE, STEP_HEAD, STEP_SIZE, Answer, Fault, Kind, OutOfMemory, Step, Text, as_bytes,
                             read_answer, read_step, write_answer, write_step)
-from gitpool_program import (TRY_AGAIN, Channel, PathLike, PoolBusy, Run, ServiceError, connect, error_of, find_program,
-                             folder_of_server, link_to, pool_of_stopped_server)
+from gitpool_program import (TRY_AGAIN, Channel, OverSsh, PathLike, PoolBusy, Run, ServiceError, connect, error_of, find_program,
+                             folder_of_server, link_to, pool_of_stopped_server, remote_of)
 from gitpool_replies import (GitObject, Listed, Listing, LogEntry, Ref, Sizes, TreeEntry, read_kept, read_log, read_object, read_refs,
                              read_sizes, read_tree, unquote)
 
@@ -35,7 +35,7 @@ __all__ = [
     "LONGEST_BODY", "PIECE", "TRY_AGAIN", "Answer", "Fault", "GitObject", "Kind", "Listed", "Listing", "LogEntry", "OutOfMemory",
     "PoolBusy", "Ref", "Service", "ServiceError", "Sizes", "Step", "Text", "TreeEntry", "as_bytes", "connect", "error_of",
     "find_program", "link_to", "pieces_of", "read_answer", "read_kept", "read_log", "read_object", "read_refs", "read_sizes",
-    "read_step", "read_tree", "unquote", "write_answer", "write_step",
+    "read_step", "read_tree", "remote_of", "unquote", "write_answer", "write_step",
 ]
 
 # About how many bytes of entries are asked for at once.
@@ -51,7 +51,9 @@ _QUESTIONS = (Kind.ASK, Kind.SIZES, Kind.MISSING, Kind.ENTRIES)
 class Service(Calls):
     """A service over a pool file, as a context manager.
 
-    pool is the pool file, which need not be there yet; without one the service begins empty and keeps nothing.
+    pool is the pool file, which need not be there yet; without one the service begins empty and keeps nothing. With
+    `ssh://[USER@]HOST[:PORT]/TENANT` it is that tenant of a gitpoold, by the ssh that git would use: Open, Feed, End, Abandon and Ask of
+    this tenant alone are answered, another one by Fault 32, and other steps by Fault 50.
     program is the path of gitpool; without one find_program looks for it.
     read_only asks for a service that locks nothing and never saves: it sees the pool as it is now, also while another run
     is at work, and what it is fed is lost. From a server it takes questions alone. Where there is no pool file, it is empty.
@@ -76,7 +78,10 @@ class Service(Calls):
         self._in, self._out = self._channel.input, self._channel.output
 
     def _find(self, pool: Optional[PathLike], program: Optional[PathLike], read_only: bool, own_run: bool, dies_with_us: bool) -> Channel:
-        found = connect(pool) if pool is not None and not own_run else None
+        remote = None if pool is None else remote_of(pool)
+        if remote is not None and own_run:
+            raise ServiceError(2, f"{os.fspath(pool or '')} is no pool file, over which a program could be run")
+        found = OverSsh(remote) if remote is not None else connect(pool) if pool is not None and not own_run else None
         if found is not None:
             self._asks_only = read_only
             return found
@@ -89,7 +94,12 @@ class Service(Calls):
     @property
     def is_served(self) -> bool:
         """Whether this is a connection to a server, where an `end` lasts from its answer on."""
-        return not isinstance(self._channel, Run)
+        return self._channel.is_server
+
+    @property
+    def is_remote(self) -> bool:
+        """Whether this is one tenant of a server, by ssh."""
+        return isinstance(self._channel, OverSsh)
 
     def __enter__(self) -> "Service":
         return self

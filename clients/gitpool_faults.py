@@ -21,7 +21,7 @@ EXPLANATIONS: Dict[int, Explanation] = {
     ),
     2: Explanation(
         "unknown command",
-        "notes, a signature or another extension; or a wrong count of the `data` before it",
+        "notes, the signature of a tag or another extension; or a wrong count of the `data` before it",
         "export without notes and with `--signed-tags=strip`; check the `data` before it",
     ),
     3: Explanation(
@@ -36,8 +36,8 @@ EXPLANATIONS: Dict[int, Explanation] = {
     ),
     5: Explanation(
         "a part of a command is missing or misplaced",
-        "the exporter died between two lines, or writes another order",
-        "export again with `--use-done-feature`; compare the order with git-fast-import(1)",
+        "the exporter died between two lines, or writes another order or signatures of commits (`gpgsig`)",
+        "export again with `--use-done-feature` and without signatures; compare the order with git-fast-import(1)",
     ),
     6: Explanation(
         "the stream is cut off in a line or a `data`",
@@ -52,7 +52,7 @@ EXPLANATIONS: Dict[int, Explanation] = {
     8: Explanation(
         "a feature or option that is not supported",
         "the stream was written for another importer",
-        "leave the line out",
+        "import it with `gitpool-import`, which knows dates and marks files; else leave the line out, if the rest does not need it",
     ),
     9: Explanation(
         "a feature or option that comes too late",

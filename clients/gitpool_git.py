@@ -106,6 +106,14 @@ class Repository:
             words = line.split()
             yield (words[1], int(words[2])) if len(words) == 3 else None
 
+    def resolve(self, expressions: Iterable[bytes]) -> Iterator[Tuple[bytes, bytes]]:
+        """The name and the kind of what each ref or name stands for, in turn. Raises GitError where one stands for nothing."""
+        for line in self._ask("--batch-check", expressions):
+            words = line.split()
+            if len(words) != 3:
+                raise GitError(f"{line.decode(errors='replace').strip()} in the local repository")
+            yield words[0], words[1]
+
     def contents(self, names: Iterable[bytes]) -> Iterator[Tuple[bytes, bytes, bytes]]:
         """The name, the kind and the contents of each object, in turn. Raises GitError where one is missing."""
         out = self._batch("--batch").stdout

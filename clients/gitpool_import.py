@@ -191,7 +191,8 @@ class Request(NamedTuple):
 def import_stream(source: Source, request: Request) -> Imported:
     """Imports a stream, and saves. After a fault, or where a ref was kept, nothing is saved unless the request keeps a part, or a server
     keeps the pool file: there what a checkpoint or the end saved lasts. Raises Refused, Fault where the tenant's name is bad, OutOfMemory,
-    ServiceError, and what the calls of the request raise."""
+    ServiceError, and what the calls of the request raise. Where a stream over ssh was refused that has a checkpoint, it raises the Fault,
+    for the place of it is not found."""
     with request.start(True) as service:
         keeps_part = request.keeps_part or service.is_served
         service.open(request.tenant)
@@ -199,8 +200,14 @@ def import_stream(source: Source, request: Request) -> Imported:
         try:
             run.feed_all(source)
         except (Fault, CannotRewrite) as reason:
+            if service.is_remote and not run.is_at_end:
+                # Nothing else has the tenant as it was, so what its checkpoints may have changed hides the place.
+                service.abandon(request.tenant)
+                if run.may_have_saved:
+                    raise
             refused = run.refused(lambda: request.start(False), source, reason, keeps_part)
-            _give_up(service, keeps_part)
+            if not service.is_remote:
+                _give_up(service, keeps_part)
             raise refused from None
         is_taken = keeps_part or not run.kept
         head = set_head(service, request.tenant) if is_taken else None

@@ -1,18 +1,20 @@
-"""Ways to a service: a run of the program over a pool file, another program that speaks frames, or the server that keeps the
-pool file."""
+"""Ways to a service: a run of the program over a pool file, another program that speaks frames, the server that keeps the pool
+file, or a server on another machine."""
 from __future__ import annotations
 
 import contextlib
 import fcntl
 import os
 import re
+import shlex
 import shutil
 import socket
 import stat
 import subprocess
 import tempfile
+import time
 from pathlib import Path
-from typing import IO, Callable, Optional, Sequence, Tuple, Union
+from typing import IO, Callable, Dict, NamedTuple, Optional, Sequence, Tuple, Union
 
 from gitpool_faults import explain
 
@@ -54,7 +56,7 @@ def find_program() -> str:
 
 def link_to(pool: Optional[PathLike]) -> Tuple[str, str]:
     """A second name for a pool file, in a new folder, and that folder. A run on this name takes nobody's lock, and its save
-    leaves the original file unchanged. Where there is no file the name is free. The caller removes the folder.
+    leaves the original file unchanged. Where there is no file the name is free. The caller removes the folder by remove_room.
 
     The name is a hard link, in the folder for temporary files or else beside the pool file; where neither can be made, the
     file is copied."""
@@ -78,13 +80,68 @@ def _put_in_room(put: Callable[..., object], source: str, folder: str) -> Option
     """The file under its name in a new folder, and that folder, if it can be put there."""
     if not os.access(folder, os.W_OK):
         return None
-    room = tempfile.mkdtemp(prefix=".gitpool-", dir=folder)
+    room = _make_room(folder)
     try:
         put(source, os.path.join(room, "pool"))
         return os.path.join(room, "pool"), room
     except OSError:
-        shutil.rmtree(room, ignore_errors=True)
+        remove_room(room)
         return None
+
+
+_ROOM = ".gitpool-"
+_HELD: Dict[str, int] = {}
+"""The rooms of this process, each with a lock that ends with the process, by which others see that the room is in use."""
+
+_SETTLED = 60
+"""Seconds after which a room without a lock is one that a killed process has left."""
+
+
+def _make_room(folder: str) -> str:
+    """A new folder for a second name. Those that killed processes left there go."""
+    _remove_left_rooms(folder)
+    room = tempfile.mkdtemp(prefix=_ROOM, dir=folder)
+    _HELD[room] = os.open(room, os.O_RDONLY | os.O_DIRECTORY)
+    try:
+        # (whoever looks whether the room is left over has the lock for a moment)
+        fcntl.flock(_HELD[room], fcntl.LOCK_EX)
+    except OSError:
+        pass  # (a file system without locks)
+    return room
+
+
+def remove_room(room: str) -> None:
+    """Removes a folder that link_to made."""
+    shutil.rmtree(room, ignore_errors=True)
+    held = _HELD.pop(room, None)
+    if held is not None:
+        os.close(held)
+
+
+def _remove_left_rooms(folder: str) -> None:
+    try:
+        names = [name for name in os.listdir(folder) if name.startswith(_ROOM)]
+    except OSError:
+        return
+    for name in names:
+        if _is_left(os.path.join(folder, name)):
+            shutil.rmtree(os.path.join(folder, name), ignore_errors=True)
+
+
+def _is_left(room: str) -> bool:
+    """Whether this is a room of ours that no process has any more."""
+    try:
+        found = os.open(room, os.O_RDONLY | os.O_DIRECTORY | os.O_NOFOLLOW)
+    except OSError:
+        return False
+    try:
+        fcntl.flock(found, fcntl.LOCK_EX | fcntl.LOCK_NB)
+        about = os.fstat(found)
+        return about.st_uid == os.geteuid() and about.st_mtime < time.time() - _SETTLED
+    except OSError:
+        return False
+    finally:
+        os.close(found)
 
 
 def error_of(pool: str, status: int, said: str, *, has_answered: bool = False, locks: bool = True) -> ServiceError:
@@ -147,6 +204,8 @@ class Channel:
     input: IO[bytes]
     output: IO[bytes]
     has_answered = False
+    is_server = False
+    """Whether an End lasts from its answer on."""
 
     def close(self) -> None:
         """Ends well what was begun. Raises ServiceError where it did not end well."""
@@ -257,12 +316,14 @@ class Run(Channel):
 
     def _remove_room(self) -> None:
         if self._room is not None:
-            shutil.rmtree(self._room, ignore_errors=True)
+            remove_room(self._room)
 
 
 class Connection(Channel):
     """A connection to the server that keeps a pool file (docs/SERVER.md). It locks and loads nothing. An End lasts from its
     answer on. The server gives up the streams that are open when the connection ends."""
+
+    is_server = True
 
     def __init__(self, peer: "socket.socket", path: str):
         self.name = f"the server at {path}"
@@ -289,6 +350,42 @@ class Connection(Channel):
         """Says that the server ended the connection."""
         self.kill()
         return ServiceError(0, f"{self.name} ended the connection; {TRY_AGAIN}")
+
+
+class OverSsh(Run):
+    """Frames of one tenant of a server on another machine, by ssh (docs/SERVER.md, "Streams and questions over ssh"). An End lasts from
+    its answer on. The server gives up the stream that is open when the connection ends."""
+
+    is_server = True
+
+    def __init__(self, address: "Remote"):
+        given = os.environ.get("GIT_SSH_COMMAND") or shlex.quote(os.environ.get("GIT_SSH", "ssh"))
+        port = ["-p", address.port] if address.port else []
+        super().__init__(["sh", "-c", "exec " + given + ' "$@"', given, *port, "--", address.host, f"frames {address.tenant}"])
+        self.name = f"the server at {address.host}"
+
+
+class Remote(NamedTuple):
+    """Where a tenant of a server on another machine is."""
+
+    host: str
+    port: Optional[str]
+    tenant: str
+
+
+_REMOTE = re.compile(r"ssh://((?:[^/@:]+@)?[^/@:]+)(?::([0-9]+))?/([A-Za-z0-9_/-]+?)(?:\.git)?")
+
+
+def remote_of(pool: PathLike) -> Optional[Remote]:
+    """What `ssh://[USER@]HOST[:PORT]/TENANT` in the place of a pool file names, or None for another text. Raises ServiceError where it
+    begins like this and names no tenant."""
+    text = os.fspath(pool)
+    if not text.startswith("ssh://"):
+        return None
+    found = _REMOTE.fullmatch(text)
+    if found is None:
+        raise ServiceError(2, f"{text} names no tenant of a server: write ssh://USER@HOST/TENANT")
+    return Remote(*found.groups())
 
 
 def folder_of_server(pool: PathLike) -> Optional[str]:

@@ -57,9 +57,12 @@ class Push:
     def judge(self, updates: Iterable[Update]) -> Tuple[List[Judged], Dict[bytes, str]]:
         """The updates that may be made, and why the others may not, by their refs. Raises GitError and Fault."""
         good, bad = [], {}
-        for update in updates:
+        asked = list(updates)
+        targets = self._local.resolve([update.source for update in asked if update.source])
+        found = dict(zip((update.source for update in asked if update.source), targets))
+        for update in asked:
             try:
-                good.append(self._judge_one(update))
+                good.append(self._judge_one(update, found))
             except Refusal as refusal:
                 bad[update.ref] = str(refusal)
         bad.update(self._nested_refs(good))
@@ -87,13 +90,11 @@ class Push:
                 finals[update.ref] = target
         return finals
 
-    def _judge_one(self, update: Update) -> Judged:
+    def _judge_one(self, update: Update, found: Dict[bytes, Tuple[bytes, bytes]]) -> Judged:
         check_ref(update.ref)
         if not update.source:
             return Judged(update, None, b"")
-        target = self._local.run("rev-parse", "--verify", "--end-of-options", os.fsdecode(update.source)).strip()
-        (found,) = self._local.check([target])
-        kind = found[0] if found else b"missing"
+        target, kind = found[update.source]
         if kind == b"tag":
             (_, _, contents), = self._local.contents([target])
             own = _TAGS + read_tag(target, contents).name

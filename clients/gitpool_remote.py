@@ -13,6 +13,7 @@ from gitpool import Fault, OutOfMemory, PoolBusy, Service, ServiceError
 from gitpool_faults import explain
 from gitpool_git import GitError, Repository
 from gitpool_objects import Refusal
+from gitpool_replies import unquote
 from gitpool_terminal import stop_once
 from gitpool_version import version
 
@@ -21,7 +22,8 @@ if TYPE_CHECKING:
 
 CAPABILITIES = b"fetch\npush\noption\ncheck-connectivity\nobject-format\n\n"
 
-_SSH = re.compile(r"ssh://(?P<host>(?:[^/@:]+@)?[^/:]+)(?::(?P<port>[0-9]+))?(?P<pool>/.*)?")
+_SSH = re.compile(r"ssh://(?P<user>[^/@:]+@)?(?P<host>[^/:@\[\]]+|\[[^/@\[\]]+\])(?::(?P<port>[0-9]+))?(?P<pool>/.*)?")
+_OTHER_WAY = re.compile(r"ssh:|[a-z+]+://", re.IGNORECASE)
 
 
 class UsageError(Exception):
@@ -42,7 +44,10 @@ def read_address(text: str) -> Address:
     pool, _, tenant = text.rpartition("#") if "#" in text else (text, "", "")
     found = _SSH.fullmatch(pool)
     if found:
-        return Address(found["pool"] or "", os.fsencode(tenant), found["host"], found["port"])
+        host = (found["user"] or "") + found["host"].strip("[]")
+        return Address(found["pool"] or "", os.fsencode(tenant), host, found["port"])
+    if _OTHER_WAY.match(pool):
+        raise UsageError(f"gitpool::{text} is no address: write gitpool::POOL#TENANT or gitpool::ssh://[USER@]HOST[:PORT][/POOL][#TENANT]")
     if not pool or not tenant:
         raise UsageError(f"gitpool::{text} names no tenant: write gitpool::POOL#TENANT")
     return Address(pool, os.fsencode(tenant))
@@ -148,7 +153,7 @@ class Helper:
         elif name == b"progress":
             self._progress.shown = value == b"true"
         elif name == b"cas":
-            ref, _, old = value.strip(b'"').rpartition(b":")
+            ref, _, old = unquote(value).rpartition(b":")
             self._leases[ref] = old
         elif name in (b"depth", b"deepen-since", b"deepen-not", b"deepen-relative", b"filter", b"from-promisor"):
             self._wishes[b"shallow"] = name

@@ -48,9 +48,10 @@ func program(flag string) (string, error) {
 }
 
 const (
-	accessText = "# USER PATTERN RIGHT: the user * is everyone; a pattern is acme/site, acme/* or *; a right is r or rw.\n"
-	hooksText  = "# PATTERN WHERE: a program or an http address that is told of pushes; `gitpoold hooks` changes them.\n"
-	limitsText = "# NAME VALUE, quota TENANT VALUE, or daily-bytes USER VALUE: `gitpoold limits` lists and sets them.\n"
+	accessText  = "# USER PATTERN RIGHT: the user * is everyone; a pattern is acme/site, acme/* or *; a right is r or rw.\n"
+	hooksText   = "# PATTERN WHERE: a program or an http address that is told of pushes; `gitpoold hooks` changes them.\n"
+	blockedText = "# user NAME WHY, or tenant NAME WHY: `gitpoold block` and `gitpoold unblock` change them.\n"
+	limitsText  = "# NAME VALUE, quota TENANT VALUE, or daily-bytes USER VALUE: `gitpoold limits` lists and sets them.\n"
 )
 
 // runInit makes what a folder lacks.
@@ -74,7 +75,8 @@ func runInit(l line) error {
 	if err := shards.Create(folder, found, count, logs); err != nil {
 		return err
 	}
-	for name, text := range map[string]string{"access": accessText, "passwords": "", "keys": "", "limits": limitsText, "hooks": hooksText} {
+	for name, text := range map[string]string{"access": accessText, "passwords": "", "keys": "", "limits": limitsText, "hooks": hooksText,
+		"blocked": blockedText} {
 		if err := createFile(filepath.Join(folder, name), text); err != nil {
 			return err
 		}
@@ -196,6 +198,24 @@ func runRevoke(l line) error {
 	}
 	return access.Revoke(l.folder(), l.words[1], pattern)
 }
+
+// runBlock blocks a user or a tenant, or lists the blocks.
+func runBlock(l line) error {
+	words := append(l.words[1:len(l.words)-1:len(l.words)-1], "")
+	if len(words) >= 3 {
+		return access.Block(l.folder(), words[0], words[1], words[2])
+	}
+	if len(words) == 2 {
+		return errors.New("say `user NAME` or `tenant NAME`")
+	}
+	all, err := access.Blocks(l.folder())
+	for _, it := range all {
+		fmt.Println(it)
+	}
+	return err
+}
+
+func runUnblock(l line) error { return access.Unblock(l.folder(), l.words[1], l.words[2]) }
 
 // runLimits lists the limits, or sets one.
 func runLimits(l line) error {

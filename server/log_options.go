@@ -10,6 +10,7 @@ import (
 	"time"
 
 	"gitpoold/journal"
+	"gitpoold/shards"
 )
 
 // logWait is how long a push waits for a Redis that does not answer, where `--log-wait` says nothing else.
@@ -54,6 +55,32 @@ func logOptions(l line) (all []journal.Options, err error) {
 	}
 	return all, nil
 }
+
+// followOptions reads what a line says of another server whose logs this one follows, and gives nil where it writes its own.
+func followOptions(l line) (*shards.Follow, error) {
+	if _, has := l.flags["--follow"]; !has {
+		for _, flag := range followFlags[1:] {
+			if _, has := l.flags[flag]; has {
+				return nil, fmt.Errorf("`%s` goes with `--follow`", flag)
+			}
+		}
+		return nil, nil
+	}
+	if len(l.logs) == 0 {
+		return nil, errors.New("`--follow` goes with `--log`")
+	}
+	follow := &shards.Follow{Leader: l.flags["--leader"]}
+	if text, has := l.flags["--take-over"]; has {
+		var err error
+		if follow.TakeOver, err = time.ParseDuration(text); err != nil || follow.TakeOver < leastTakeOver {
+			return nil, fmt.Errorf("`--take-over %s` is no time of %v or more, such as 10s", text, leastTakeOver)
+		}
+	}
+	return follow, nil
+}
+
+// leastTakeOver is a few times that between two signs of life.
+const leastTakeOver = 2 * time.Second
 
 // redisPassword reads the password of Redis, which is empty where there is no such file.
 func redisPassword(path string) (string, error) {

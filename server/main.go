@@ -49,8 +49,9 @@ func (l line) folder() string { return l.words[0] }
 
 // logFlags are those of a journal in Redis, and switches the flags that have no value.
 var (
-	logFlags = []string{"--log", "--log-wait", "--replicas", "--log-unsynced"}
-	switches = map[string]bool{"--log-unsynced": true}
+	logFlags    = []string{"--log", "--log-wait", "--replicas", "--log-unsynced"}
+	followFlags = []string{"--follow", "--leader", "--take-over"}
+	switches    = map[string]bool{"--log-unsynced": true, "--follow": true}
 )
 
 func commands() []command {
@@ -63,8 +64,11 @@ func commands() []command {
 			nil, runGrant},
 		{"revoke", "DIR USER [PATTERN]", "take a grant back; without a pattern all grants, the password and the keys", 2, 3, nil, runRevoke},
 		{"serve", "DIR [--http ADDRESS] [--ssh ADDRESS] [--socket PATH] [--certificate FILE --certificate-key FILE] " +
-			"[--log ADDRESS .. [--log-wait TIME] [--replicas N] [--log-unsynced]] [--pool-copy PATH]", "serve until SIGTERM", 1, 1,
-			append([]string{"--http", "--ssh", "--socket", "--program", "--certificate", "--certificate-key", "--pool-copy"}, logFlags...), runServe},
+			"[--log ADDRESS .. [--log-wait TIME] [--replicas N] [--log-unsynced] [--follow [--leader URL] [--take-over TIME]]] [--pool-copy PATH]",
+			"serve until SIGTERM; with --follow as a replica of the server that writes the logs: it answers what only reads, and with --take-over " +
+				"takes the logs over when that server has been silent for so long", 1, 1,
+			append(append([]string{"--http", "--ssh", "--socket", "--program", "--certificate", "--certificate-key", "--pool-copy"}, logFlags...),
+				followFlags...), runServe},
 		{"status", "DIR", "tell how the running server stands", 1, 1, []string{"--socket"}, runCall},
 		{"save", "DIR", "save the pool file now", 1, 1, []string{"--socket"}, runCall},
 		{"tenants", "DIR", "list the tenants of the running server, with their sizes", 1, 1, []string{"--socket"}, runCall},
@@ -73,6 +77,9 @@ func commands() []command {
 		{"compact", "DIR TENANT", "drop what no ref of a tenant reaches", 2, 2, []string{"--socket"}, runCall},
 		{"move", "DIR TENANT SHARD", "move a tenant to another shard", 3, 3, []string{"--socket"}, runCall},
 		{"limits", "DIR [NAME VALUE | quota TENANT VALUE | daily-bytes|daily-child USER VALUE]", "list the limits, or set one; the value `default` unsets it", 1, 4, nil, runLimits},
+		{"block", "DIR [user|tenant NAME [WHY]]", "refuse everything to a user, or pushes and streams to a tenant, and tell them why; without a name list " +
+			"what is blocked", 1, 4, nil, runBlock},
+		{"unblock", "DIR user|tenant NAME", "take a block back", 3, 3, nil, runUnblock},
 		{"hooks", "DIR [add|remove PATTERN WHERE]", "list the hooks, or let a program or an http address be told of pushes", 1, 4,
 			nil, runHooks},
 	}
@@ -118,10 +125,11 @@ func statusOf(err error) int {
 	var damaged *journal.Damaged
 	var bad *journal.BadLog
 	var two *shards.TwoPlaces
+	var missing *shards.Missing
 	switch {
 	case errors.As(err, &bad) && bad.IsTaken:
 		return statusDevice
-	case errors.As(err, &damaged), errors.As(err, &bad), errors.As(err, &two), errors.Is(err, poolfile.ErrForm), errors.Is(err, store.ErrLoad):
+	case errors.As(err, &damaged), errors.As(err, &bad), errors.As(err, &two), errors.As(err, &missing), errors.Is(err, poolfile.ErrForm), errors.Is(err, store.ErrLoad):
 		return statusDamaged
 	case errors.Is(err, store.ErrInHand), errors.Is(err, os.ErrNotExist), errors.Is(err, os.ErrPermission), errors.Is(err, syscall.EROFS):
 		return statusDevice

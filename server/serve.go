@@ -111,21 +111,30 @@ func open(l line) (*server, error) {
 	if err != nil {
 		return nil, err
 	}
-	redis, err := logOptions(l)
+	pool, err := openShards(l, store.Config{Folder: folder, Program: found, ChildMemory: values.ChildMemory,
+		Copy: l.flags["--pool-copy"], Stop: stopAtOnce, Tell: log.Printf})
 	if err != nil {
 		return nil, err
 	}
-	pool, err := shards.Open(shards.Config{Logs: redis, Store: store.Config{Folder: folder, Program: found, ChildMemory: values.ChildMemory,
-		Copy: l.flags["--pool-copy"], Stop: stopAtOnce, Tell: log.Printf}})
-	if err != nil {
-		return nil, err
-	}
-	s := &site.Site{Pool: tenants.New(pool, bounds.Quota), Access: who, Limits: bounds, Log: log, Metrics: m, Hooks: told, Version: version,
+	s := &site.Site{Pool: tenants.New(pool, bounds.Quota), Access: who, Limits: bounds, Log: log, Metrics: m, Hooks: told, Version: version, Elsewhere: pool.Follows,
 		Daily: daily.Open(filepath.Join(folder, "usage"), bounds.Daily, log.Printf),
 		Work:  filepath.Join(folder, "work"), Markdown: markdown.HTML}
 	door := operator.New(s, pool)
 	door.Measure()
 	return &server{l, pool, s, door}, nil
+}
+
+// openShards takes the shards up where their journals are, or follows the server that writes these.
+func openShards(l line, config store.Config) (*shards.Set, error) {
+	redis, err := logOptions(l)
+	if err != nil {
+		return nil, err
+	}
+	follow, err := followOptions(l)
+	if err != nil {
+		return nil, err
+	}
+	return shards.Open(shards.Config{Logs: redis, Follow: follow, Store: config})
 }
 
 // way is one way in: what serves a listener until the context is done.

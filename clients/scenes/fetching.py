@@ -3,7 +3,7 @@ from __future__ import annotations
 
 from typing import List
 
-from .room import Kind, Room, os, scene
+from .room import Kind, Room, os, scene, subprocess
 
 
 def asked_for(room: Room) -> List[bytes]:
@@ -69,6 +69,36 @@ def a_fetch_leaves_the_pool_file(room: Room) -> None:
     assert (before.st_ino, before.st_mtime_ns, before.st_nlink) == (after.st_ino, after.st_mtime_ns, after.st_nlink)
     left = [it for it in os.listdir(room.folder) if it.startswith((".gitpool-", "gitpool-", "all.pool."))]
     assert not left, left
+
+
+@scene
+def rooms_that_killed_fetches_left_go(room: Room) -> None:
+    room.pushed()
+    words = ["gitpool-shell", "--pool", room.pool, "acme/site", "fetch"]
+    begun = [subprocess.Popen(words, env=dict(room.environment, TMPDIR=room.folder), stdin=subprocess.PIPE, stdout=subprocess.PIPE) for _ in "ab"]
+    for it in begun:
+        assert it.stdin and it.stdout
+        it.stdin.write(b"\4\0\1t\0\0\0\4refs")
+        it.stdin.flush()
+        it.stdout.read(17)
+    rooms = [room.path(it) for it in os.listdir(room.folder) if it.startswith(".gitpool-")]
+    begun[0].kill()
+    begun[0].communicate()  # (the program ends by itself then)
+    assert len(rooms) == 2, rooms
+    for name in rooms:
+        os.utime(name, (0, 0))
+    room.git("", "ls-remote", room.url(), TMPDIR=room.folder)
+    assert [os.path.exists(it) for it in rooms].count(True) == 1, rooms
+    assert begun[1].communicate()[0] == b"" and begun[1].returncode == 0
+    assert not [it for it in os.listdir(room.folder) if it.startswith(".gitpool-")]
+
+
+@scene
+def a_fetch_says_nothing(room: Room) -> None:
+    site = room.pushed()
+    for at, words in (("", ("clone", "-q", room.url(), "copy")), (site, ("fetch", "-q", "pool")), (site, ("push", "-q", "pool", "main:x"))):
+        done = room.run(["git", *words], at)
+        assert done.returncode == 0 and not done.stderr, done
 
 
 @scene

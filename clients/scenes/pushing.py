@@ -86,6 +86,13 @@ def a_push_with_a_lease(room: Room) -> None:
     room.commit("copy", "Late", None, "--amend")
     room.fails("copy", "push", "--force-with-lease", says="(stale info)")
     room.same(site)
+    # Git quotes such a name where it tells the helper what it has seen.
+    room.git(site, "branch", "\u00e4", "main")
+    room.git(site, "push", "-q", "pool", "\u00e4")
+    room.git(site, "fetch", "-q", "pool")
+    room.git(site, "branch", "-f", "\u00e4", "main~1")
+    room.git(site, "push", "-q", "--force-with-lease", "pool", "\u00e4")
+    room.same(site)
 
 
 @scene

@@ -3,8 +3,10 @@ address, where one is installed."""
 from __future__ import annotations
 
 import getpass
+import resource
 import shutil
 import socket
+import time
 
 from .room import NotTried, Room, os, scene, subprocess, text, wait_for
 
@@ -51,7 +53,7 @@ def over_ssh_only_one_tenant(room: Room) -> None:
     ssh = forced(room, "--pool", room.pool, "--read-only", "acme/other")
     room.git("", "clone", "-q", "gitpool::ssh://host", "copy", GIT_SSH_COMMAND=ssh)
     room.fails("copy", "push", "origin", "main:refs/heads/x", says="serves git fetch alone", GIT_SSH_COMMAND=ssh)
-    for asked in ("", "scp -t /etc", "gitpool-shell --pool x y import"):
+    for asked in ("", "scp -t /etc", "gitpool-shell --pool x y import", "gitpool-shell 'push"):
         done = room.run(["gitpool-shell", "--pool", room.pool, "acme/site"], SSH_ORIGINAL_COMMAND=asked)
         assert done.returncode == 1 and b"serves git fetch and push alone" in done.stderr, done.stderr
     for frames in (b"\5\0\0\0\0\0\0", b"\1\0\1t\0\0\0\0", b"\2\0\1t\0\0\0\1x"):
@@ -70,7 +72,8 @@ def over_ssh_errors_arrive(room: Room) -> None:
     ssh = forced(room, "--pool", room.pool, "acme/site")
     held = subprocess.Popen([room.program, "serve", "--pool", room.pool], stdin=subprocess.PIPE, stdout=subprocess.DEVNULL)
     wait_for(lambda: os.path.exists(room.pool + ".new"))
-    room.fails(site, "push", "gitpool::ssh://host", "main:refs/heads/x", says="in hand; try again", GIT_SSH_COMMAND=ssh)
+    said = room.fails(site, "push", "gitpool::ssh://host", "main:refs/heads/x", says="in hand; try again", GIT_SSH_COMMAND=ssh)
+    assert room.pool not in said, said
     room.git("", "clone", "-q", "gitpool::ssh://host", "meanwhile", GIT_SSH_COMMAND=ssh)
     assert held.stdin
     held.stdin.close()
@@ -90,6 +93,63 @@ def over_ssh_a_connection_that_breaks(room: Room) -> None:
         done = room.run(["gitpool-shell", "--pool", room.pool, "acme/site", "push"], data=frames[:size])
         assert done.returncode == 0, done.stderr
         assert room.tenant_refs() == before
+
+
+def stand_in(room: Room, text: str) -> str:
+    """A program in the place of gitpool, a script of sh in which $PROGRAM is the real one."""
+    path = room.path("stand-in")
+    with open(path, "w", encoding="utf-8") as file:
+        file.write(f"#!/bin/sh\nPROGRAM={room.program}\n{text}\n")
+    os.chmod(path, 0o755)
+    return path
+
+
+@scene
+def over_ssh_a_program_that_is_killed(room: Room) -> None:
+    site = room.pushed()
+    before = room.tenant_refs()
+    room.commit(site, "New", {"new": "n\n"})
+    ssh = forced(room, "--pool", room.pool, "acme/site")
+    # It has answered everything, and is killed before it saves.
+    os.mkfifo(room.path("input"))
+    killed = stand_in(room, f'"$PROGRAM" "$@" < {room.path("input")} & exec 9> {room.path("input")}\ncat >&9\nkill -9 $!\nkill -9 $$')
+    said = room.fails(site, "push", "gitpool::ssh://host", "main", says="ended by signal 9", GIT_SSH_COMMAND=ssh, GITPOOL=killed)
+    assert "main -> main\n" not in said and room.tenant_refs() == before, said
+    room.git(site, "push", "-q", "gitpool::ssh://host", "main", GIT_SSH_COMMAND=ssh)
+    room.same(site)
+
+
+@scene
+def over_ssh_a_silent_client(room: Room) -> None:
+    site = room.pushed()
+    words = ["gitpool-shell", "--pool", room.pool, "--idle", "0.5", "acme/site", "push"]
+    silent = subprocess.Popen(words, env=room.environment, stdin=subprocess.PIPE, stdout=subprocess.DEVNULL, stderr=subprocess.PIPE)
+    assert silent.stderr
+    status, said = silent.wait(60), silent.stderr.read()
+    assert status == 1 and b"nothing came for 0.5 seconds" in said, said
+    room.commit(site, "New", {"new": "n\n"})
+    room.git(site, "push", "-q", "pool", "main")
+    room.same(site)
+
+
+@scene
+def over_ssh_a_fetch_saves_nothing(room: Room) -> None:
+    room.pushed()
+    slow = stand_in(room, '"$PROGRAM" "$@"\nsleep 30')
+    begin = time.monotonic()
+    done = room.run(["gitpool-shell", "--pool", room.pool, "acme/site", "fetch"], data=b"\4\0\1t\0\0\0\4refs", GITPOOL=slow)
+    assert done.returncode == 0 and time.monotonic() - begin < 20, done
+
+
+@scene
+def over_ssh_long_frames(room: Room) -> None:
+    reads = stand_in(room, "exec cat > /dev/null")
+    frames = 8 * (b"\2\0\1t\1\0\0\0" + bytes(1 << 24))
+    before = resource.getrusage(resource.RUSAGE_CHILDREN)
+    done = room.run(["gitpool-shell", "--pool", room.pool, "acme/site", "push"], data=frames, GITPOOL=reads)
+    after = resource.getrusage(resource.RUSAGE_CHILDREN)
+    took = after.ru_utime + after.ru_stime - before.ru_utime - before.ru_stime
+    assert done.returncode == 0 and took < 4, (done.returncode, took)
 
 
 class Sshd:

@@ -41,6 +41,23 @@ def an_export_that_git_takes(room: Room) -> None:
 
 
 @scene
+def an_export_that_is_cut_off(room: Room) -> None:
+    room.pushed()
+    into, fed = room.init("into"), room.path("fed")
+    os.mkdir(room.path("in-place"))
+    with open(room.path("in-place", "git"), "w", encoding="utf-8") as file:
+        file.write(f'#!/bin/sh\ncase "$*" in *fast-import*) exec cat > {fed} ;; esac\n')
+    os.chmod(room.path("in-place", "git"), 0o755)
+    # What is fed without a `done` after `feature done` changes no ref.
+    for program, is_whole in ((room.program, True), ("/bin/false", False)):
+        room.run(["gitpool-export", "acme/site", "--pool", room.pool, "--into", room.path(into)], GITPOOL=program,
+                 PATH=room.path("in-place") + ":" + room.environment["PATH"])
+        with open(fed, "rb") as stream:
+            said = stream.read()
+        assert said.startswith(b"feature done\n") and said.endswith(b"\ndone\n") == is_whole and (len(said) > 100) == is_whole, said
+
+
+@scene
 def an_export_of_other_things(room: Room) -> None:
     site = room.init("site", "--initial-branch=trunk")
     room.commit(site, "One", {'a "b"\nc': "a\n"})

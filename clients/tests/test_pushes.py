@@ -8,7 +8,7 @@ from typing import Dict
 from unittest import mock
 
 from gitpool import Service
-from gitpool_git import Repository
+from gitpool_git import GitError, Repository
 from gitpool_objects import Commit, Refusal, read_commit
 from gitpool_push import Push, Update
 
@@ -75,6 +75,18 @@ class OverARepository(unittest.TestCase):
                     push.send(judged)
             self.assertIn("would come to another name", str(caught.exception))
             self.assertEqual([ref.name for ref in service.refs(TENANT)], [b"refs/heads/main"])
+
+    def test_many_refs_need_no_process_each(self) -> None:
+        names = [b"refs/heads/many%d" % it for it in range(1000)]
+        self.local.run("update-ref", "--stdin", data=b"".join(b"create %b %b\n" % (name, self.name("main")) for name in names))
+        with Service() as service:
+            push = Push(service, TENANT, self.local, {}, b"")
+            with mock.patch("gitpool_git.subprocess.run") as run:
+                judged, refused = push.judge([Update(name, name, False) for name in names])
+            self.assertEqual((run.call_count, len(judged), refused), (0, 1000, {}))
+            self.assertEqual({it.target for it in judged}, {self.name("main")})
+            with self.assertRaises(GitError):
+                push.judge([Update(b"refs/heads/nothing", b"refs/heads/x", False)])
 
     def test_a_repository_as_git_has_it(self) -> None:
         self.assertEqual(self.local.object_format(), "sha1")

@@ -5,6 +5,7 @@ import tempfile
 import unittest
 from typing import Callable, List, Tuple
 
+import gitpool
 from gitpool import Fault, Kind, PoolBusy, Service, ServiceError, Step
 
 BLOB = b"blob\nmark :1\ndata 6\nhello\n\nget-mark :1\n"
@@ -113,6 +114,8 @@ class OverAPool(unittest.TestCase):
             service.import_stream("t", [BLOB])
         with open(self.pool, "rb") as file:
             before = file.read()
+        with Service(self.pool + "typo", read_only=True) as reader:
+            self.assertEqual(reader.refs("t"), [])
         with Service(self.pool, read_only=True) as reader:
             reader.import_stream("t", [COMMIT])
         with open(self.pool, "rb") as file:
@@ -197,6 +200,37 @@ class OverAPool(unittest.TestCase):
         service.kill()
         with self.assertRaises(ServiceError):
             service.head("t")
+
+
+class Elsewhere(unittest.TestCase):
+    """Servers that are reached over ssh, which the library for C does not do."""
+
+    def setUp(self) -> None:
+        self.folder = tempfile.mkdtemp()
+        self.addCleanup(shutil.rmtree, self.folder)
+
+    def test_addresses_of_servers_elsewhere(self) -> None:
+        for text, told in (("ssh://a@h/t", ("a@h", None, "t")), ("ssh://h:22/acme/site.git", ("h", "22", "acme/site")), ("all.pool", None),
+                           ("./ssh://h/t", None)):
+            self.assertEqual(gitpool.remote_of(text), told)
+        for text in ("ssh://h", "ssh://h/", "ssh:///t", "ssh://h/a b", "ssh://h:x/t", "ssh://h/t;id"):
+            with self.assertRaises(gitpool.ServiceError):
+                gitpool.remote_of(text)
+        with self.assertRaises(gitpool.ServiceError):
+            gitpool.Service("ssh://h/t", own_run=True)
+
+    def test_a_server_elsewhere(self) -> None:
+        """The command that ssh is given, and what it says at its end."""
+        script = os.path.join(self.folder, "ssh")
+        with open(script, "w", encoding="ascii") as file:
+            file.write('#!/bin/sh\necho "$@" >&2\nexit 255\n')
+        os.chmod(script, 0o700)
+        os.environ["GIT_SSH"] = script
+        self.addCleanup(os.environ.pop, "GIT_SSH")
+        service = gitpool.Service("ssh://a@h:22/acme/site")
+        with self.assertRaises(gitpool.ServiceError) as raised:
+            service.refs("acme/site")
+        self.assertEqual((str(raised.exception), raised.exception.status), ("-p 22 -- a@h frames acme/site", 255))
 
 
 if __name__ == "__main__":

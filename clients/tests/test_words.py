@@ -47,6 +47,12 @@ class Addresses(unittest.TestCase):
         self.assertEqual(read_address("odd#name.pool#t"), Address("odd#name.pool", b"t"))
         self.assertEqual(read_address("ssh://me@host:22/srv/p#t"), Address("/srv/p", b"t", "me@host", "22"))
         self.assertEqual(read_address("ssh://host"), Address("", b"", "host", None))
+        self.assertEqual(read_address("ssh://me@[2001:db8::1]:22/p#t"), Address("/p", b"t", "me@2001:db8::1", "22"))
+        self.assertEqual(read_address("ssh://[::1]"), Address("", b"", "::1", None))
+        for text in ("ssh:/host/p#t", "ssh://host:port/p#t", "ssh://::1/p#t", "ssh://me@[::1/p#t", "SSH://host#t", "https://host/p#t"):
+            with self.assertRaises(UsageError) as caught:
+                read_address(text)
+            self.assertIn("is no address", str(caught.exception))
         for text in ("/srv/all.pool", "#t", "/srv/all.pool#", ""):
             with self.assertRaises(UsageError):
                 read_address(text)

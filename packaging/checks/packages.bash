@@ -44,8 +44,8 @@ versions_of_packages_sort() {
 }
 
 packages_have_the_same_bytes() {
-  local words=(--program "$program" "${library[@]}") count=2
-  if [ "$static" ]; then words+=(--static "$static") count=3; else words+=(--no-static); fi
+  local words=(--program "$program" "${library[@]}") count=1
+  if [ "$static" ]; then words+=(--static "$static") count=2; else words+=(--no-static); fi
   ! has_server || count=$((count + 1))
   [ ${#library[@]} = 0 ] || count=$((count + 4))
   export GOCACHE=$room/gocache
@@ -101,17 +101,6 @@ debian_packages_are_well_formed() {
   done
 }
 
-units_name_files_of_the_packages() {
-  dpkg-deb -x "$(deb gitpool-deploy)" "$room/root"
-  cd "$room/root"
-  grep -rhoE '(=|file:|GITPOOL=)/usr/[^ ]*' usr/lib/systemd/system | sed 's/^[^/]*//' | sort -u > "$room/named"
-  same "$(wc -l < "$room/named")" 4
-  while read -r it; do
-    [ -e "$room/root$it" ] || { echo "no $it"; return 1; }
-  done < "$room/named"
-  ! grep -rl /opt/gitpool usr/lib/systemd
-}
-
 # The package of the server, beside that of the program.
 server_package_serves() {
   dpkg-deb -x "$(deb gitpool-server)" "$room/root"
@@ -123,29 +112,7 @@ server_package_serves() {
   grep -hoE '(=|file:)/usr/[^ ]*' "$room/root/usr/lib/systemd/system/gitpoold@.service" | sed 's/^[^/]*//' | while read -r it; do
     [ -e "$room/root$it" ] || { echo "no $it"; return 1; }
   done
-}
-
-# Without Redis: the program is found by GITPOOL, on the PATH, and beside the folder; a shard works, and the commands say what they do.
-deploy_finds_the_program() {
-  make_program "$room/elsewhere/gitpool" other
-  cd "$room/root/usr/lib/gitpool/deploy"
-  find_it='from program import find_program; print(find_program())'
-  same "$(PATH=$plain_path python3 -Bc "$find_it")" "$(PATH=$plain_path command -v gitpool || echo "$room/root/usr/lib/gitpool/gitpool")"
-  same "$(PATH=$room/elsewhere:$plain_path python3 -Bc "$find_it")" "$room/elsewhere/gitpool"
-  said=$(GITPOOL=/named PATH=$room/elsewhere:$plain_path python3 -Bc "$find_it" 2>&1) && return 1
-  [[ $said == *"no program /named"* ]]
-  cd "$room"
-  export GITPOOL=$room/root/usr/lib/gitpool/gitpool PYTHONPATH=$room/root/usr/lib/gitpool/deploy
-  python3 -Bc 'if True:
-    from shard import Shard
-    shard = Shard("shard.pool")
-    shard.service.import_stream("alice", [b"blob\ndata 6\nhello\n"])
-    shard.save()
-    shard.kill()'
-  same "$(gitpool ask alice 'cat ce01' --pool shard.pool | head -n 1)" "$hello blob 6"
-  for it in admin front worker; do
-    [ ! -d /usr/lib/python3/dist-packages/redis ] || /usr/bin/python3 -B "$room/root/usr/lib/gitpool/deploy/$it" --help > "$room/said"
-  done
+  cmp "$room/root/usr/share/doc/gitpool-server/redis.conf" "$top/server/redis.conf"
 }
 
 # Links the static executable, where the object is there.

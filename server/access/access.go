@@ -1,9 +1,9 @@
 // Package access says who may read and write which tenant, and who is who.
 //
-// The operator's folder has three files. `access` has lines `USER PATTERN RIGHT`: the user `*` is everyone, without a password; the
+// The operator's folder has four files. `access` has lines `USER PATTERN RIGHT`: the user `*` is everyone, without a password; the
 // pattern is the name of a tenant, or a name and `/*` for all below it, or `*` for all; the right is `r` or `rw`. `passwords` has
-// lines `USER HASH` with hashes by bcrypt, and `keys` has lines `USER TYPE KEY` as authorized_keys have them. Commands change these
-// files, and a running server reads them again when they have changed.
+// lines `USER HASH` with hashes by bcrypt, and `keys` has lines `USER TYPE KEY` as authorized_keys have them. `blocked` has lines
+// `user NAME WHY` and `tenant NAME WHY`. Commands change these files, and a running server reads them again when they have changed.
 package access
 
 import (
@@ -11,6 +11,7 @@ import (
 	"path/filepath"
 	"regexp"
 	"strings"
+	"sync"
 
 	"golang.org/x/crypto/bcrypt"
 	"golang.org/x/crypto/ssh"
@@ -59,11 +60,13 @@ type grant struct {
 	right   Right
 }
 
-// rules are what the three files come to.
+// rules are what the files come to.
 type rules struct {
 	grants    map[string][]grant
 	passwords map[string]string
 	keys      map[string]string
+	// blocked has why a user or a tenant is blocked, by `user NAME` and `tenant NAME`.
+	blocked map[string]string
 }
 
 // Access answers who may do what. Its methods may be called by many goroutines at once.
@@ -80,21 +83,35 @@ type Access struct {
 func Load(folder string, tell func(format string, values ...any)) (*Access, error) {
 	read := func() (*rules, error) { return readRules(folder) }
 	followed, err := lists.Follow(read, tell, filepath.Join(folder, "access"), filepath.Join(folder, "passwords"),
-		filepath.Join(folder, "keys"))
+		filepath.Join(folder, "keys"), filepath.Join(folder, "blocked"))
 	if err != nil {
 		return nil, err
 	}
-	nobody, err := bcrypt.GenerateFromPassword([]byte("nobody has this password"), hashCost)
+	nobody, err := hashOfNobody()
 	return &Access{rules: followed, proofs: newProofs(), throttle: newThrottle(), places: make(chan struct{}, hashesAtOnce),
 		nobody: nobody}, err
 }
 
+var nobody struct {
+	once sync.Once
+	hash []byte
+	err  error
+}
+
+// hashOfNobody makes a hash that is no user's, once in a process.
+func hashOfNobody() ([]byte, error) {
+	nobody.once.Do(func() {
+		nobody.hash, nobody.err = bcrypt.GenerateFromPassword([]byte("nobody has this password"), hashCost)
+	})
+	return nobody.hash, nobody.err
+}
+
 func readRules(folder string) (*rules, error) {
-	r := &rules{map[string][]grant{}, map[string]string{}, map[string]string{}}
+	r := &rules{map[string][]grant{}, map[string]string{}, map[string]string{}, map[string]string{}}
 	for _, file := range []struct {
 		name string
 		take func(words []string) error
-	}{{"access", r.takeGrant}, {"passwords", r.takePassword}, {"keys", r.takeKey}} {
+	}{{"access", r.takeGrant}, {"passwords", r.takePassword}, {"keys", r.takeKey}, {"blocked", r.takeBlocked}} {
 		lines, err := lists.Read(filepath.Join(folder, file.name))
 		if err != nil {
 			return nil, err
@@ -148,10 +165,14 @@ func (r *rules) takeKey(words []string) error {
 	return nil
 }
 
-// Right tells what a user may do with a tenant, whether or not there is one. The user "" is a visitor without a password.
+// Right tells what a user may do with a tenant, whether or not there is one: nothing, where the user is blocked. The user "" is a visitor
+// without a password.
 func (a *Access) Right(user, tenant string) Right {
 	r := a.rules.Get()
 	best := None
+	if _, isBlocked := r.blocked[User+" "+user]; isBlocked {
+		return None
+	}
 	for _, grants := range [][]grant{r.grants[user], r.grants[Everyone]} {
 		for _, it := range grants {
 			if it.right > best && Matches(it.pattern, tenant) {

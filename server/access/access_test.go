@@ -223,3 +223,50 @@ func TestABadFileChangesNothing(t *testing.T) {
 		t.Fatal("a bad file was read")
 	}
 }
+
+func TestBlocks(t *testing.T) {
+	folder := t.TempDir()
+	a := loaded(t, folder)
+	must(t, Grant(folder, "alice", "*", "rw"))
+	must(t, Grant(folder, Everyone, "open", "r"))
+	must(t, Block(folder, User, "alice", "too  much"))
+	must(t, Block(folder, Tenant, "acme/site", ""))
+	for _, it := range []struct {
+		user, tenant string
+		right        Right
+		want         string
+	}{
+		{"alice", "open", Read, "this user is blocked: too much (fault 25)"}, {"bob", "acme/site", Read, ""}, {"", "acme/site", Read, ""},
+		{"bob", "acme/site", Write, "this repository is blocked and cannot be changed (fault 25)"}, {"bob", "acme/other", Write, ""},
+		{"acme/site", "alice", Write, ""},
+	} {
+		got := ""
+		if err := a.Blocked(it.user, it.tenant, it.right); err != nil {
+			got = err.Error()
+		}
+		if got != it.want {
+			t.Errorf("%v: %q", it, got)
+		}
+	}
+	if a.Right("alice", "open") != None || a.Right("", "open") != Read || a.Right("bob", "open") != Read {
+		t.Error("rights of who is blocked")
+	}
+	must(t, Block(folder, User, "alice", "again"))
+	if all, err := Blocks(folder); err != nil || strings.Join(all, "|") != "tenant acme/site|user alice again" {
+		t.Error(all, err)
+	}
+	must(t, Unblock(folder, User, "alice"))
+	must(t, Unblock(folder, Tenant, "acme/site"))
+	if loaded(t, folder).Blocked("alice", "acme/site", Write) != nil || a.Right("alice", "open") != Write {
+		t.Error("blocked still")
+	}
+	for _, words := range [][3]string{{"user", "git", ""}, {"user", "*", ""}, {"tenant", "acme/*", ""}, {"what", "alice", ""},
+		{"user", "alice", "a\nuser bob"}, {"user", "alice", "a\xffb"}, {"user", "alice", strings.Repeat("x", 201)}} {
+		if Block(folder, words[0], words[1], words[2]) == nil {
+			t.Error(words)
+		}
+	}
+	if Unblock(folder, User, "alice") == nil {
+		t.Error("unblocked twice")
+	}
+}

@@ -2,6 +2,7 @@ package child
 
 import (
 	"context"
+	"math"
 	"time"
 )
 
@@ -16,6 +17,23 @@ func Charging(ctx context.Context, charge func(time.Duration)) context.Context {
 func chargeOf(ctx context.Context) func(time.Duration) {
 	charge, _ := ctx.Value(chargeKey{}).(func(time.Duration))
 	return charge
+}
+
+// roomKey is the key, among the values of a context, of the room for replies.
+type roomKey struct{}
+
+// InRoom gives a context whose batches have room for so many bytes of replies. The answers that come once there is none left are dropped, so at
+// least one is kept; who asks may ask the rest again.
+func InRoom(ctx context.Context, bytes int64) context.Context {
+	return context.WithValue(ctx, roomKey{}, bytes)
+}
+
+// roomOf gives the room of a context, which is without end where it has none.
+func roomOf(ctx context.Context) int64 {
+	if room, has := ctx.Value(roomKey{}).(int64); has {
+		return room
+	}
+	return math.MaxInt64
 }
 
 // Endless gives a context that never ends, and charges as another one does.

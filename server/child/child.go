@@ -64,6 +64,7 @@ type Batch struct {
 	count   int
 	class   Class
 	charge  func(time.Duration)
+	room    int64
 	answers []frames.Answer
 	done    chan struct{}
 	err     error
@@ -172,7 +173,7 @@ func (p *Process) Send(ctx context.Context, class Class, steps ...frames.Step) (
 	for _, step := range steps {
 		size += step.Size()
 	}
-	b := &Batch{frames: make([]byte, 0, size), count: len(steps), class: class, charge: chargeOf(ctx), done: make(chan struct{})}
+	b := &Batch{frames: make([]byte, 0, size), count: len(steps), class: class, charge: chargeOf(ctx), room: roomOf(ctx), done: make(chan struct{})}
 	for _, step := range steps {
 		b.frames = step.AppendTo(b.frames)
 	}
@@ -249,7 +250,7 @@ func (p *Process) leave(class Class) {
 }
 
 // Wait gives the answers of a batch in the order of its steps, ErrGone, or the context's error; then the answers are dropped when
-// they come.
+// they come. Of a batch that was sent InRoom the last answers may be missing.
 func (b *Batch) Wait(ctx context.Context) ([]frames.Answer, error) {
 	select {
 	case <-b.done:
@@ -275,8 +276,7 @@ func (p *Process) send(done chan<- struct{}) {
 	for {
 		select {
 		case b := <-p.queue:
-			p.sent <- b
-			if _, err := p.in.Write(p.together(b.frames)); err != nil {
+			if _, err := p.in.Write(p.together(p.passOn(nil, b))); err != nil {
 				_ = p.command.Process.Kill()
 				return
 			}
@@ -294,13 +294,23 @@ func (p *Process) together(text []byte) []byte {
 	for len(text) < togetherBytes && len(p.sent) < cap(p.sent)/2 {
 		select {
 		case b := <-p.queue:
-			p.sent <- b
-			text = append(text, b.frames...)
+			text = p.passOn(text, b)
 		default:
 			return text
 		}
 	}
 	return text
+}
+
+// passOn appends the frames of a batch, which keeps them no longer, and lets its answers come.
+func (p *Process) passOn(text []byte, b *Batch) []byte {
+	own := b.frames
+	b.frames = nil
+	p.sent <- b
+	if text == nil {
+		return own
+	}
+	return append(text, own...)
 }
 
 // receive gives each batch its answers until the child's output ends, and then tells everyone who still waits.
@@ -327,14 +337,22 @@ func gone(err error) error {
 	return ErrGone
 }
 
+// receiveBatch takes the answers to a batch. What comes once there is no room any more is passed over.
 func receiveBatch(from *bufio.Reader, b *Batch) error {
 	b.answers = make([]frames.Answer, 0, b.count)
-	for len(b.answers) < b.count {
+	for left := b.count; left > 0; left-- {
+		if b.room <= 0 {
+			if err := frames.PassAnswer(from); err != nil {
+				return err
+			}
+			continue
+		}
 		answer, err := frames.ReadAnswer(from)
 		if err != nil {
 			return err
 		}
 		b.answers = append(b.answers, answer)
+		b.room -= int64(len(answer.Reply))
 	}
 	return nil
 }

@@ -3,7 +3,7 @@
 // Package faultpoint marks the places at which a test ends the server, its child or both.
 //
 // GITPOOLD_FAULT is WHOM:N, where WHOM is server, child or both: the N-th fault point that the server comes to, counted from 1, kills
-// it by signal 9. The file GITPOOLD_FAULT_LOG gets the name of each fault point before anything is killed there.
+// it by signal 9. So does the first one of a name, where that stands in the place of N. The file GITPOOLD_FAULT_LOG gets the name of each fault point before anything is killed there.
 package faultpoint
 
 import (
@@ -19,9 +19,10 @@ import (
 const Enabled = true
 
 var (
-	mutex sync.Mutex
-	child int
-	count int
+	mutex  sync.Mutex
+	child  int
+	count  int
+	isOver bool
 )
 
 // SetChild tells which process is the child.
@@ -37,10 +38,11 @@ func Here(name string) {
 	defer mutex.Unlock()
 	count++
 	note(name)
-	whom, number, found := strings.Cut(os.Getenv("GITPOOLD_FAULT"), ":")
-	if wanted, err := strconv.Atoi(number); !found || err != nil || wanted != count {
+	whom, wanted, found := strings.Cut(os.Getenv("GITPOOLD_FAULT"), ":")
+	if !found || isOver || wanted != name && wanted != strconv.Itoa(count) {
 		return
 	}
+	isOver = true
 	if whom != "server" && child > 0 {
 		_ = syscall.Kill(child, syscall.SIGKILL)
 	}

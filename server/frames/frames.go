@@ -198,27 +198,55 @@ type Answer struct {
 const answerHead = 17
 
 // AppendTo appends the frame of an answer to bytes.
-func (a Answer) AppendTo(to []byte) []byte {
-	to = append(to, byte(a.Status))
-	to = binary.BigEndian.AppendUint64(to, a.Value)
-	to = binary.BigEndian.AppendUint64(to, uint64(len(a.Reply)))
-	return append(to, a.Reply...)
+func (a Answer) AppendTo(to []byte) []byte { return append(append(to, a.head()...), a.Reply...) }
+
+// head is what stands before the reply.
+func (a Answer) head() []byte {
+	to := binary.BigEndian.AppendUint64([]byte{byte(a.Status)}, a.Value)
+	return binary.BigEndian.AppendUint64(to, uint64(len(a.Reply)))
+}
+
+// WriteTo writes the frame of an answer.
+func (a Answer) WriteTo(to io.Writer) (int64, error) {
+	head, err := to.Write(a.head())
+	if err != nil {
+		return int64(head), err
+	}
+	reply, err := to.Write(a.Reply)
+	return int64(head + reply), err
 }
 
 // ReadAnswer reads the next answer. It gives io.EOF where the input ends between answers, else ErrWrong, ErrCut, or the reader's
 // own error.
 func ReadAnswer(from *bufio.Reader) (Answer, error) {
+	answer, size, err := readHead(from)
+	if err == nil {
+		answer.Reply, err = readBytes(from, size)
+	}
+	return answer, err
+}
+
+// PassAnswer reads the next answer as ReadAnswer does, and keeps nothing of it.
+func PassAnswer(from *bufio.Reader) error {
+	_, size, err := readHead(from)
+	if err == nil {
+		_, err = io.CopyN(io.Discard, from, int64(size))
+	}
+	return cut(err)
+}
+
+// readHead reads what stands before the reply of an answer, and the size of that.
+func readHead(from *bufio.Reader) (answer Answer, size uint64, err error) {
 	if _, err := from.Peek(1); err != nil {
-		return Answer{}, err
+		return answer, 0, err
 	}
 	var head [answerHead]byte
 	if _, err := io.ReadFull(from, head[:]); err != nil {
-		return Answer{}, cut(err)
+		return answer, 0, cut(err)
 	}
-	size := binary.BigEndian.Uint64(head[9:])
+	size = binary.BigEndian.Uint64(head[9:])
 	if head[0] > byte(Memory) || size > longestReply {
-		return Answer{}, ErrWrong
+		return answer, 0, ErrWrong
 	}
-	reply, err := readBytes(from, size)
-	return Answer{Status(head[0]), binary.BigEndian.Uint64(head[1:]), reply}, err
+	return Answer{Status: Status(head[0]), Value: binary.BigEndian.Uint64(head[1:])}, size, nil
 }

@@ -4,6 +4,7 @@ package httpd
 import (
 	"bytes"
 	"context"
+	"errors"
 	"io"
 	"log"
 	"net"
@@ -12,6 +13,7 @@ import (
 	"strconv"
 	"time"
 
+	"gitpoold/access"
 	"gitpoold/logs"
 	"gitpoold/pages"
 	"gitpoold/services"
@@ -88,10 +90,18 @@ func (s *server) ServeHTTP(w http.ResponseWriter, r *http.Request) {
 		w.Header().Set("Content-Type", "text/plain; version=0.0.4")
 		s.Metrics.Text(e.w)
 	case r.URL.Path == "/healthz":
-		_, _ = io.WriteString(e.w, "ok\n")
+		_, _ = io.WriteString(e.w, e.health())
 	default:
 		e.route()
 	}
+}
+
+// health tells whether this server takes pushes or follows another one.
+func (e *exchange) health() string {
+	if e.Elsewhere != nil && e.Elsewhere() != nil {
+		return "ok following\n"
+	}
+	return "ok\n"
 }
 
 // route finds out whether a browser or git asks. What has the separator of pages in its path is none of git's.
@@ -169,7 +179,9 @@ func (e *exchange) with(method string, answer func(*exchange, context.Context, t
 		return
 	}
 	e.meter, e.w.meter = meter, meter
-	answer(e, e.r.Context(), t)
+	watched, end := e.Watch(e.r.Context(), e.record.User, e.record.Tenant, services.Right(e.name), func(error) { stop(e.r) })
+	defer end()
+	answer(e, watched, t)
 }
 
 // open finds the tenant, if the user has the right to it. Else it has answered.
@@ -180,15 +192,18 @@ func (e *exchange) open() (t tenants.Tenant, ok bool) {
 		return t, false
 	}
 	t, err := e.Open(user, e.record.Tenant, services.Right(e.name))
+	var blocked *access.Blocked
 	switch {
 	case err == nil:
 		return t, true
+	case errors.As(err, &blocked):
+		e.fail(http.StatusForbidden, err.Error())
 	case user == "":
 		e.askPassword("this needs a user and a password")
-	case err == site.ErrReadOnly:
-		e.fail(http.StatusForbidden, err.Error())
-	default:
+	case err == site.ErrNotFound:
 		e.fail(http.StatusNotFound, err.Error())
+	default:
+		e.fail(http.StatusForbidden, err.Error())
 	}
 	return t, false
 }

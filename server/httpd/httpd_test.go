@@ -6,6 +6,7 @@ import (
 	"io"
 	"net"
 	"path/filepath"
+	"runtime"
 	"testing"
 	"time"
 
@@ -58,6 +59,29 @@ func TestARefusedRequestTakesNoLongerThanAnother(t *testing.T) {
 			t.Fatal("the connection is open still")
 		case <-time.After(20 * time.Millisecond):
 			_, _ = c.Write([]byte("x"))
+		}
+	}
+}
+
+// TestBrokenConnectionsLeaveNothing breaks 1,000 connections off in and after requests.
+func TestBrokenConnectionsLeaveNothing(t *testing.T) {
+	address := served(t)
+	time.Sleep(50 * time.Millisecond)
+	before := runtime.NumGoroutine()
+	requests := []string{"", "GET /heal", "GET /healthz HTTP/1.1\r\nHost: a\r\n\r\n", "GET /healthz HTTP/1.1\r\nHost: a\r\n\r\nGET /healthz HTT",
+		"POST /a/HEAD HTTP/1.1\r\nHost: a\r\nContent-Length: 100000\r\n\r\nhalf", "POST /a/HEAD HTTP/1.1\r\nHost: a\r\nTransfer-Encoding: chunked\r\n\r\n5\r\nab"}
+	for at := 0; at < 1000; at++ {
+		c, err := net.Dial("tcp", address)
+		if err != nil {
+			t.Fatal(err)
+		}
+		_, _ = io.WriteString(c, requests[at%len(requests)])
+		c.Close()
+	}
+	for until := time.Now().Add(20 * time.Second); runtime.NumGoroutine() > before; time.Sleep(10 * time.Millisecond) {
+		if time.Now().After(until) {
+			text := make([]byte, 1<<20)
+			t.Fatalf("%d goroutines are left:\n%s", runtime.NumGoroutine()-before, text[:runtime.Stack(text, true)])
 		}
 	}
 }

@@ -3,6 +3,7 @@ package httpd
 import (
 	"bufio"
 	"bytes"
+	"errors"
 	"fmt"
 	"net"
 	"net/http"
@@ -64,7 +65,11 @@ func (e *exchange) visit(v pages.Visit) {
 		return
 	}
 	t, err := e.Open(v.User, v.Place.Tenant, access.Read)
+	var blocked *access.Blocked
 	switch {
+	case errors.As(err, &blocked):
+		e.send(v.Refusal(http.StatusForbidden, "Blocked", err.Error()))
+		return
 	case err != nil && v.User == "":
 		e.askSignIn(v, "This needs a user and a password.")
 		return

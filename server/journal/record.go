@@ -29,6 +29,8 @@ const (
 	Moving  frames.Kind = 35
 	Moved   frames.Kind = 36
 	Settled frames.Kind = 37
+	// Brought has a part of the pool file of a tenant that comes from another shard, for servers that follow the log.
+	Brought frames.Kind = 38
 )
 
 // A record is a head, a frame, and a chain: the length of the frame (4 bytes), the record's number (8), and the CRC-32C of both (4);

@@ -147,17 +147,29 @@ func OpenRedis(options Options, pool Digest) (*Redis, error) {
 	return r, nil
 }
 
-// takeOver reads the log and takes it over. It tries again while Redis is away, or another server is at work with it.
+// takeOver reads the log and takes it over. It tries again while Redis is away, replicas are late, or another server is at work with it.
 func (r *Redis) takeOver(pool Digest, kept place) error {
-	until := time.Now().Add(r.options.Wait)
+	began := time.Now()
 	for {
 		err := r.tryTakeOver(pool, kept)
 		var bad *BadLog
-		if err == nil || errors.As(err, &bad) || errors.Is(err, ErrUnsynced) || time.Now().After(until) {
+		if err == nil || errors.As(err, &bad) || errors.Is(err, ErrUnsynced) || time.Since(began) > r.options.startWithin(err) {
 			return err
 		}
 		time.Sleep(time.Second / 10)
 	}
+}
+
+// replicasWithin is how long a start waits for replicas at least. After a failover a primary has none for some ten seconds: Sentinel waits
+// that long before it lets the old primary follow the new one.
+const replicasWithin = time.Minute
+
+// startWithin is how long a start tries again what failed.
+func (o *Options) startWithin(err error) time.Duration {
+	if errors.Is(err, errFewReplicas) && o.Wait < replicasWithin {
+		return replicasWithin
+	}
+	return o.Wait
 }
 
 func (r *Redis) tryTakeOver(pool Digest, kept place) error {
@@ -195,18 +207,15 @@ func (r *Redis) readAndBegin(conn redis.Conn, w *walk, pool Digest) error {
 	if err := w.check(); err != nil {
 		return err
 	}
-	base, found := baseOf(w.segments, pool)
-	if !found {
-		return r.options.Address.lostPool(pool)
-	}
-	if open := w.segments[base].open; len(open) > 0 && open[0] < w.segments[0].first {
-		return r.options.Address.bad("the records before record %d are missing", w.segments[0].first)
+	base, err := w.baseFor(pool)
+	if err != nil {
+		return err
 	}
 	taken, err := takenOver(w.end)
 	if err == nil {
 		err = r.putAndWait(conn, w.end, []queued{taken})
 	}
-	if err != nil {
+	if err = r.awaitReplicas(conn, err); err != nil {
 		return err
 	}
 	r.segments, r.base, r.hasSteps, r.acked, r.appended = w.segments, base, w.hasSteps, taken.end, taken.end
@@ -303,25 +312,58 @@ func (r *Redis) Begin(pool Digest, open []uint64) error {
 	return nil
 }
 
-// Drop removes the records that are not needed any more, unless another server has the log.
+// Drop removes the records that are not needed any more, unless another server has the log. Where servers follow the log, it keeps those that
+// followedFrom says.
 func (r *Redis) Drop() error {
 	r.line.Lock()
 	defer r.line.Unlock()
 	r.mutex.Lock()
 	base := len(r.segments) - 1
-	needed := neededFrom(r.segments, base)
-	first, end := r.segments[needed].first, r.acked.chain
+	needed, followed := neededFrom(r.segments, base), followedFrom(r.segments)
+	first, early, end := r.segments[needed].first, r.segments[followed].first, r.acked.chain
 	r.mutex.Unlock()
 	if r.conn == nil {
 		return fmt.Errorf("the log keeps what it no longer needs: %w", ErrAway)
 	}
-	if err := ended(trimScript.Do(r.conn, r.options.Address.key, end[:], idOf(first))); err != nil {
+	isFollowed, err := trimmed(trimScript.Do(r.conn, r.options.Address.key, r.options.Address.followers(), end[:], idOf(first), idOf(early)))
+	if err != nil {
 		return fmt.Errorf("the log keeps what it no longer needs: %w", err)
+	}
+	if isFollowed {
+		needed = followed
 	}
 	r.mutex.Lock()
 	defer r.mutex.Unlock()
 	r.base, r.segments = base-needed, r.segments[needed:]
 	return r.place.file.Sync()
+}
+
+// IsFollowed tells whether other servers follow the log.
+func (r *Redis) IsFollowed() bool {
+	r.line.Lock()
+	defer r.line.Unlock()
+	if r.conn == nil {
+		return false
+	}
+	found, err := redis.Bool(r.conn.Do("EXISTS", r.options.Address.followers()))
+	return err == nil && found
+}
+
+// A log that servers follow keeps what came since the save before the last one, and up to mostKept saves if these have no more than keptBytes.
+const (
+	mostKept  = 8
+	keptBytes = 64 << 20
+)
+
+// followedFrom is the place of the first segment that is kept for servers that follow the log and may be behind.
+func followedFrom(all []segment) int {
+	last := len(all) - 1
+	at, bytes := last, int64(0)
+	for at > 0 && (at == last || last-at < mostKept && bytes+all[at-1].size <= keptBytes) {
+		at--
+		bytes += all[at].size
+	}
+	return neededFrom(all, at)
 }
 
 // Resume lets the journal go on from what Redis has.
@@ -347,12 +389,12 @@ func (r *Redis) keepPlace() {
 // Losses is 0: where records are lost, the child is replaced, and its streams end.
 func (r *Redis) Losses() uint64 { return 0 }
 
-// Bytes is how many bytes of records the log has.
+// Bytes is how many bytes of records the log has that a start would need.
 func (r *Redis) Bytes() int64 {
 	r.mutex.Lock()
 	defer r.mutex.Unlock()
 	bytes := r.appended.size
-	for _, it := range r.segments[:len(r.segments)-1] {
+	for _, it := range r.segments[neededFrom(r.segments, r.base) : len(r.segments)-1] {
 		bytes += it.size
 	}
 	return bytes

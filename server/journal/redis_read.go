@@ -21,9 +21,13 @@ var ErrUnread = errors.New("the journal cannot be read now")
 type BadLog struct {
 	Log    string
 	Reason string
-	// IsTaken says that the log is as it should be, and that another server has it.
-	IsTaken bool
+	// IsTaken says that the log is as it should be, and that another server has it. NeedsCopy says that it is as it should be, and that
+	// this server, which follows it, has to begin from a newer pool file.
+	IsTaken, NeedsCopy bool
 }
+
+// IsLoss tells whether the log lacks what this server had.
+func (b *BadLog) IsLoss() bool { return !b.IsTaken && !b.NeedsCopy }
 
 func (b *BadLog) Error() string {
 	return fmt.Sprintf("%s: %s; nothing was changed (docs/SERVER.md, \"The journal in Redis\")", b.Log, b.Reason)
@@ -60,19 +64,31 @@ func (r *reading) next() ([]byte, error) {
 	if len(r.got) == 0 {
 		return nil, io.EOF
 	}
-	id, record, err := entryOf(r.got[0])
+	number, record, err := recordOf(r.address, r.got[0])
 	if err != nil {
-		return nil, r.address.bad("the entry %s is not one of this service", id)
+		return nil, err
 	}
-	number, err := numberOf(id)
-	if err != nil || number < r.from {
-		return nil, r.address.bad("the entry %s has no place of this service", id)
+	if number < r.from {
+		return nil, r.address.bad("the entry %s has no place of this service", idOf(number))
 	}
 	r.got, r.from = r.got[1:], number+1
-	if h := headOf(record); !h.isGood || h.number != number || h.recordBytes() != int64(len(record)) {
-		return nil, r.address.bad("record %d is not as it was written", number)
-	}
 	return record, nil
+}
+
+// recordOf gives the number and the record of an entry, which has to be one.
+func recordOf(address Address, entry any) (uint64, []byte, error) {
+	id, record, err := entryOf(entry)
+	if err != nil {
+		return 0, nil, address.bad("the entry %s is not one of this service", id)
+	}
+	number, err := numberOf(id)
+	if err != nil {
+		return 0, nil, address.bad("the entry %s has no place of this service", id)
+	}
+	if h := headOf(record); !h.isGood || h.number != number || h.recordBytes() != int64(len(record)) {
+		return 0, nil, address.bad("record %d is not as it was written", number)
+	}
+	return number, record, nil
 }
 
 // headOf reads the head of a record, which is bad where the record is too short for one.
@@ -91,19 +107,25 @@ func (r *reading) fetch() error {
 	if err != nil {
 		return fmt.Errorf("%w: %v", ErrUnread, err)
 	}
+	r.got, r.isEnd = got, len(got) < r.count
+	r.count = countAfter(r.count, got)
+	return nil
+}
+
+// countAfter gives how many entries to read at once, after these were read.
+func countAfter(count int, got []any) int {
 	size := 0
 	for _, it := range got {
 		if _, record, err := entryOf(it); err == nil {
 			size += len(record)
 		}
 	}
-	r.got, r.isEnd = got, len(got) < r.count
-	if size < fewBytes && r.count < mostAtOnce {
-		r.count *= 2
-	} else if size > manyBytes && r.count > fewestAtOnce {
-		r.count /= 2
+	if size < fewBytes && count < mostAtOnce {
+		return count * 2
+	} else if size > manyBytes && count > fewestAtOnce {
+		return count / 2
 	}
-	return nil
+	return count
 }
 
 // entryOf gives the place and the record of an entry as Redis tells it.
@@ -192,7 +214,9 @@ func (w *walk) step(read Record, size int64) error {
 			return w.address.bad("record %d is not as it was written", read.Number)
 		}
 		w.segments[last].size = w.end.size - size
-		w.segments, w.end.size, w.hasSteps = append(w.segments, it), size, false
+		w.end.size, w.hasSteps = size, false
+		it.end = w.end
+		w.segments = append(w.segments, it)
 	case TakenOver:
 	default:
 		w.hasSteps = true
@@ -232,27 +256,48 @@ func (r *Redis) Records(pool Digest, use func(Record) error) error {
 	if err := r.Sync(appended.number); err != nil {
 		return fmt.Errorf("%w: %v", ErrUnread, err)
 	}
+	return r.options.records(all, appended, pool, use)
+}
+
+// records calls `use` with each record of these segments, up to an end, that a pool file has not.
+func (o *Options) records(all []segment, end mark, pool Digest, use func(Record) error) error {
 	base, found := baseOf(all, pool)
 	if !found {
-		return r.options.Address.lostPool(pool)
+		return o.Address.lostPool(pool)
 	}
-	conn, err := r.options.connect()
+	conn, err := o.connect()
 	if err != nil {
 		return fmt.Errorf("%w: %v", ErrUnread, err)
 	}
 	defer conn.Close()
 	older := openOnly(all[base].open, use)
 	needed := neededFrom(all, base)
-	w := walk{address: r.options.Address, kept: place{appended.number, appended.chain}, use: func(at int, record Record) error {
+	w := walk{address: o.Address, kept: place{end.number, end.chain}, use: func(at int, record Record) error {
 		if needed+at < base {
 			return older(record)
 		}
 		return use(record)
 	}}
-	if err := w.all(conn, all[needed].first, appended.number); err != nil {
+	if err := w.all(conn, all[needed].first, end.number); err != nil {
 		return err
 	}
 	return w.check()
+}
+
+// baseFor gives the place of the segment that goes on from a pool file.
+func (w *walk) baseFor(pool Digest) (int, error) {
+	base, found := baseOf(w.segments, pool)
+	if !found {
+		return 0, w.address.lostPool(pool)
+	}
+	if open := w.segments[base].open; len(open) > 0 && open[0] < w.segments[0].first {
+		if base < len(w.segments)-1 {
+			// A later save has dropped them.
+			return 0, w.address.lostPool(pool)
+		}
+		return 0, w.address.bad("the records before record %d are missing", w.segments[0].first)
+	}
+	return base, nil
 }
 
 func (a Address) lostPool(pool Digest) error {

@@ -250,6 +250,34 @@ func TestOpenStreamsAreKeptInRedis(t *testing.T) {
 	}
 }
 
+// TestAnOlderPoolFileIsTold has the pool file of the save before the last: the log has what came after it, but not all of a stream that was open.
+func TestAnOlderPoolFileIsTold(t *testing.T) {
+	t.Parallel()
+	server := redistest.Start(t)
+	o := options(t, server)
+	inRedis := created(t, o)
+	folder := t.TempDir()
+	inFiles := opened(t, folder, pools[0])
+	for _, j := range []Journal{inRedis, inFiles} {
+		for at, tenant := range []string{"a", "b"} {
+			number, err := j.Append(frames.Step{Kind: frames.Open, Tenant: tenant})
+			if err == nil {
+				err = j.Begin(pools[at+1], []uint64{number})
+			}
+			if err == nil {
+				err = j.Drop()
+			}
+			if err != nil {
+				t.Fatal(err)
+			}
+		}
+	}
+	isRefused(t, server, o, pools[1], "no record goes on from the pool file")
+	if _, err := Open(folder, pools[1], quiet); err == nil || !strings.Contains(err.Error(), "no segment goes on from the pool file") {
+		t.Fatal(err)
+	}
+}
+
 func TestASecondServerTakesTheLogOver(t *testing.T) {
 	t.Parallel()
 	server := redistest.Start(t)
@@ -610,6 +638,60 @@ func TestReplicas(t *testing.T) {
 	}
 }
 
+// TestAStartWaitsForReplicas has a replica that is away for longer than a push would wait, as after a failover: the start waits for it, and
+// appends one record.
+func TestAStartWaitsForReplicas(t *testing.T) {
+	t.Parallel()
+	primary := redistest.Start(t, "--repl-diskless-sync-delay", "0")
+	host, port, _ := strings.Cut(primary.Host(), ":")
+	replica := redistest.Start(t, "--replicaof", host+" "+port)
+	o := options(t, primary)
+	if err := CreateRedis(o, pools[0]); err != nil {
+		t.Fatal(err)
+	}
+	o.Wait, o.Replicas = 2*time.Second, 1
+	replica.Kill()
+	time.AfterFunc(4*time.Second, replica.Restart)
+	began := time.Now()
+	j := openedRedis(t, o, pools[0])
+	if took := time.Since(began); took < 3*time.Second {
+		t.Fatalf("the start did not wait: %v", took)
+	}
+	// A record for each connection: on a busy machine one may break.
+	if count := len(replica.Do("XRANGE", "site", "-", "+").([]any)); count < 2 || count > 3 {
+		t.Fatalf("the log has %d records", count)
+	}
+	hasNumbers(t, j, pools[0], 0, 0)
+}
+
+// TestALogWithoutReplicasDoesNotGrow has replicas that are away for long: the server tries again and again, and appends one record.
+func TestALogWithoutReplicasDoesNotGrow(t *testing.T) {
+	t.Parallel()
+	primary := redistest.Start(t, "--repl-diskless-sync-delay", "0")
+	host, port, _ := strings.Cut(primary.Host(), ":")
+	replica := redistest.Start(t, "--replicaof", host+" "+port)
+	o := options(t, primary)
+	o.Replicas, o.Wait = 1, 5*time.Second
+	j := created(t, o)
+	appendAll(t, j, 0, 3)
+	replica.Signal(syscall.SIGSTOP)
+	if err := append1(j, 3); err != ErrUnsure {
+		t.Fatal(err)
+	}
+	length := func() int { return len(primary.Do("XRANGE", "site", "-", "+").([]any)) }
+	before := length()
+	time.Sleep(5 * time.Second)
+	if more := length() - before; more > 1 {
+		t.Errorf("the log has %d more records", more)
+	}
+	replica.Signal(syscall.SIGCONT)
+	isStale(t, j)
+	j.Resume()
+	hasTexts(t, j, pools[0], "0", "1", "2", "3")
+	appendAll(t, j, 4, 8)
+	hasNumbers(t, openedRedis(t, o, pools[0]), pools[0], 0, 8)
+}
+
 func TestAddresses(t *testing.T) {
 	for text, want := range map[string]string{
 		"redis://h:1/k": "redis://h:1/k", "redis://u@h:1/k/l": "redis://h:1/k/l", "rediss://h:1/k": "rediss://h:1/k",
@@ -667,9 +749,16 @@ func TestSentinel(t *testing.T) {
 			t.Fatal("the replica is not there")
 		}
 	}
+	f := follows(t, o)
 	primary.Kill()
 	appendAll(t, j, 5, 8)
 	hasNumbers(t, j, pools[0], 0, 8)
+	if err := f.takes(j.Number()); err != nil || strings.Join(f.texts, " ") != "0 1 2 3 4 5 6 7" {
+		t.Fatal(f.texts, err)
+	}
+	if number, err := f.Fresh(background); err != nil || number != j.Number() {
+		t.Fatal(number, err)
+	}
 	if count, err := redis.Int(replica.Do("XLEN", "site"), nil); err != nil || count != 10 {
 		t.Fatalf("the replica has %d records: %v", count, err)
 	}

@@ -25,8 +25,15 @@ var (
 for at = 2, #ARGV, 2 do redis.call('XADD', KEYS[1], ARGV[at], 'record', ARGV[at + 1]) end
 return {}
 `)
-	trimScript = redis.NewScript(1, ending+`
-redis.call('XTRIM', KEYS[1], 'MINID', ARGV[2])
+	// trimScript tells whether servers follow the log. Then it keeps more.
+	trimScript = redis.NewScript(2, ending+`
+local followed = redis.call('EXISTS', KEYS[2])
+redis.call('XTRIM', KEYS[1], 'MINID', ARGV[2 + followed])
+return {tostring(followed)}
+`)
+	// signScript raises the sign of life of the server that writes the log. A Redis that has no memory for it goes without.
+	signScript = redis.NewScript(2, ending+`
+redis.pcall('INCR', KEYS[2])
 return {}
 `)
 )
@@ -43,6 +50,15 @@ func ended(answer any, err error) error {
 		err = &otherEnd{found[0], found[1]}
 	}
 	return err
+}
+
+// trimmed reads what the script of a trim answers.
+func trimmed(answer any, err error) (isFollowed bool, _ error) {
+	if err = ended(answer, err); err != nil {
+		return false, err
+	}
+	found, err := redis.Strings(answer, nil)
+	return len(found) == 1 && found[0] == "1", err
 }
 
 // put appends records to a log that ends in a chain. Where it ends in another one, nothing is appended, and the error is otherEnd.
@@ -72,8 +88,16 @@ func (r *Redis) putAndWait(conn redis.Conn, behind mark, batch []queued) error {
 			err = put(conn, r.options.Address.key, string(behind.chain[:]), batch)
 		}
 	}
-	if err != nil || r.options.Replicas == 0 {
+	if err != nil {
 		return err
+	}
+	return r.waitForReplicas(conn)
+}
+
+// waitForReplicas waits until enough replicas have what was appended.
+func (r *Redis) waitForReplicas(conn redis.Conn) error {
+	if r.options.Replicas == 0 {
+		return nil
 	}
 	within := r.options.tryWithin()
 	count, err := redis.Int(redis.DoWithTimeout(conn, 2*within, "WAIT", r.options.Replicas, within.Milliseconds()))
@@ -84,6 +108,19 @@ func (r *Redis) putAndWait(conn redis.Conn, behind mark, batch []queued) error {
 		return fmt.Errorf("%w: %d of %d", errFewReplicas, count, r.options.Replicas)
 	}
 	return nil
+}
+
+// awaitReplicas waits longer where a start has found that replicas are late, as long as the connection lasts: so it appends one record
+// and no more.
+func (r *Redis) awaitReplicas(conn redis.Conn, late error) error {
+	if !errors.Is(late, errFewReplicas) {
+		return late
+	}
+	r.options.Tell("the log %v: %v; the start waits for them", r.options.Address, late)
+	for began := time.Now(); errors.Is(late, errFewReplicas) && conn.Err() == nil && time.Since(began) < r.options.startWithin(late); {
+		late = r.waitForReplicas(conn)
+	}
+	return late
 }
 
 // countOf tells how many of the records a log has that ends in a chain: 0 where the chain is behind none of them.
@@ -293,11 +330,11 @@ func (r *Redis) fail(batch []queued, isSure bool, why error) {
 	if isRefusal(why) {
 		r.broken = ErrFull
 	}
-	r.sent, r.ends = nil, []possibleEnd{{r.acked, 0}}
+	r.sent, r.ends = nil, []possibleEnd{{mark: r.acked}}
 	if !isSure {
 		r.sent, r.unsure = batch, batch[len(batch)-1].end.number
 		for at, it := range batch {
-			r.ends = append(r.ends, possibleEnd{it.end, at + 1})
+			r.ends = append(r.ends, possibleEnd{mark: it.end, stand: at + 1})
 		}
 	}
 	r.queue, r.waiting, r.appended = nil, 0, r.acked
@@ -314,10 +351,12 @@ func (r *Redis) stop(why error) {
 	go r.options.Lost(why)
 }
 
-// possibleEnd is where the log of a broken journal may end, and how many of the records are there then that Redis said nothing of.
+// possibleEnd is where the log of a broken journal may end, and how many of the records are there then that Redis said nothing of. It may be
+// a record by which this server has taken the log over since.
 type possibleEnd struct {
 	mark
-	stand int
+	stand   int
+	isFence bool
 }
 
 // heal looks whether Redis takes records again. It writes that this server takes the log over, so that what was sent before and is on its
@@ -342,7 +381,8 @@ func (r *Redis) heal() {
 	r.options.Stale()
 }
 
-// fence takes the log over at the record in which it ends, and tells how many of the records are there that were sent.
+// fence takes the log over at the record in which it ends, and tells how many of the records are there that were sent. Where it has done so before,
+// and replicas were late, it waits for these alone.
 func (r *Redis) fence() (end mark, stand int, err error) {
 	r.line.Lock()
 	defer r.line.Unlock()
@@ -351,18 +391,13 @@ func (r *Redis) fence() (end mark, stand int, err error) {
 	}
 	at := r.ends[0]
 	for turn := 0; turn < 3; turn++ {
-		taken, err := takenOver(at.mark)
-		if err != nil {
-			return mark{}, 0, err
+		if at.isFence {
+			return at.mark, at.stand, r.unless(r.waitForReplicas(r.conn))
 		}
-		r.ends = append(r.ends, possibleEnd{taken.end, at.stand})
-		err = r.putAndWait(r.conn, at.mark, []queued{taken})
+		end, err := r.fenceAt(at)
 		var other *otherEnd
 		if !errors.As(err, &other) {
-			if isRefusal(err) {
-				r.ends = r.ends[:len(r.ends)-1]
-			}
-			return taken.end, at.stand, r.unless(err)
+			return end, at.stand, r.unless(err)
 		}
 		var known bool
 		if at, known = r.endOf(other.chain); !known {
@@ -370,6 +405,21 @@ func (r *Redis) fence() (end mark, stand int, err error) {
 		}
 	}
 	return mark{}, 0, errors.New("the log goes on by itself")
+}
+
+// fenceAt takes the log over at one of its possible ends, if it ends there. Its record is another one then, unless it was surely not appended.
+func (r *Redis) fenceAt(at possibleEnd) (end mark, err error) {
+	taken, err := takenOver(at.mark)
+	if err != nil {
+		return mark{}, err
+	}
+	r.ends = append(r.ends, possibleEnd{mark: taken.end, stand: at.stand, isFence: true})
+	err = r.putAndWait(r.conn, at.mark, []queued{taken})
+	var other *otherEnd
+	if isRefusal(err) || errors.As(err, &other) {
+		r.ends = r.ends[:len(r.ends)-1]
+	}
+	return taken.end, err
 }
 
 // endOf gives the end of a chain, if the log of a broken journal may end there.
@@ -382,7 +432,7 @@ func (r *Redis) endOf(chain string) (possibleEnd, bool) {
 	return possibleEnd{}, false
 }
 
-// lookAtEnd looks whether the log ends where this server left it, and calls for another child while one is needed.
+// lookAtEnd looks whether the log ends where this server left it, leaves a sign of life, and calls for another child while one is needed.
 func (r *Redis) lookAtEnd() {
 	r.mutex.Lock()
 	end, isStale := r.acked, r.isStale
@@ -393,7 +443,7 @@ func (r *Redis) lookAtEnd() {
 	r.line.Lock()
 	err := r.reconnect()
 	if err == nil {
-		err = put(r.conn, r.options.Address.key, string(end.chain[:]), nil)
+		err = ended(signScript.Do(r.conn, r.options.Address.key, r.options.Address.alive(), end.chain[:]))
 		var other *otherEnd
 		if errors.As(err, &other) {
 			err = r.explain(end, other)
@@ -426,7 +476,7 @@ func (r *Redis) explain(at mark, other *otherEnd) error {
 	if _, record, err := entryOf(found[0]); err != nil || !strings.HasSuffix(string(record), string(at.chain[:])) {
 		return address.bad("record %d is another one than this server had: the log lost records and went on", at.number)
 	}
-	return &BadLog{address.String(), "another server has taken the log over" + whoOf(found[1:]), true}
+	return &BadLog{Log: address.String(), Reason: "another server has taken the log over" + whoOf(found[1:]), IsTaken: true}
 }
 
 // whoOf tells who has taken a log over, by the entries that follow.

@@ -5,19 +5,34 @@ import (
 	"os"
 
 	"gitpoold/faultpoint"
+	"gitpoold/frames"
 )
 
 // Begin begins a segment for the steps that come after a pool file, which may become the pool file now. `open` has the numbers of the
 // Opens of the streams that are open, in rising order: the pool file has what their tenants had at them. The segment is on the disk when
 // Begin returns nil; else the journal goes on in the segment that it had.
 func (j *Files) Begin(pool Digest, open []uint64) error {
+	return j.beginWith(segment{pool: pool, open: open})
+}
+
+// Renew begins a segment that has all that is to be kept of those before, as steps: the next start carries these out, and what comes after them.
+// It lasts, and the segments before are not needed any more, when Renew returns nil; else the journal is as it was. Nobody appends meanwhile.
+func (j *Files) Renew(pool Digest, steps []frames.Step) error {
+	if err := j.beginWith(segment{pool: pool}, steps...); err != nil {
+		return err
+	}
+	return j.Drop()
+}
+
+// beginWith begins a segment, with steps in it.
+func (j *Files) beginWith(made segment, steps ...frames.Step) error {
 	j.mutex.Lock()
 	defer j.mutex.Unlock()
 	if err := j.settle(); err != nil {
 		return err
 	}
-	made := segment{number: j.current().number + 1, pool: pool, open: open}
-	file, err := made.create(j.folder, j.synced)
+	made.number = j.current().number + 1
+	file, err := made.create(j.folder, j.synced, steps...)
 	if err != nil {
 		if _, left := os.Stat(path(j.folder, made.number)); !errors.Is(left, os.ErrNotExist) {
 			// Nothing may follow in this segment while another one stands behind it.

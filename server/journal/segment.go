@@ -44,12 +44,13 @@ type segment struct {
 	size  int64
 }
 
-// create makes the file of a segment that goes on behind a mark. It appears whole: it is written beside its place, synced, and renamed.
-func (it *segment) create(folder string, before mark) (*os.File, error) {
-	it.before, it.first = before.chain, before.number+1
-	it.end = mark{int64(len(title)), before.number, before.chain}
-	bytes := appendRecord([]byte(title), &it.end, frames.Step{Kind: saved, Body: it.body()})
-	it.start = it.end.size
+// create makes the file of a segment that goes on behind a mark and has these steps. It appears whole: it is written beside its place,
+// synced, and renamed.
+func (it *segment) create(folder string, before mark, steps ...frames.Step) (*os.File, error) {
+	bytes := it.begin(before)
+	for _, step := range steps {
+		bytes = appendRecord(bytes, &it.end, step)
+	}
 	place := path(folder, it.number)
 	faultpoint.Here("before a segment is written")
 	err := writeSynced(place+".new", bytes)
@@ -70,6 +71,15 @@ func (it *segment) create(folder string, before mark) (*os.File, error) {
 		os.Remove(place)
 	}
 	return file, err
+}
+
+// begin gives what stands first in a segment that goes on behind a mark.
+func (it *segment) begin(before mark) []byte {
+	it.before, it.first = before.chain, before.number+1
+	it.end = mark{int64(len(title)), before.number, before.chain}
+	bytes := appendRecord([]byte(title), &it.end, frames.Step{Kind: saved, Body: it.body()})
+	it.start = it.end.size
+	return bytes
 }
 
 // body is the body of a segment's first record.
@@ -142,6 +152,10 @@ func Open(folder string, pool Digest, tell func(format string, values ...any)) (
 	}
 	base := j.segments[j.base]
 	if len(base.open) > 0 && base.open[0] < j.segments[0].first {
+		if j.base < len(j.segments)-1 {
+			// A later save has dropped them.
+			return nil, lostPool(folder, pool)
+		}
 		return nil, &Damaged{path(folder, j.segments[0].number), 0, "the segment before it is missing"}
 	}
 	return j, j.goOn()

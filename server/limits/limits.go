@@ -21,6 +21,8 @@ type Limits struct {
 	values *lists.Followed[Values]
 	mutex  sync.Mutex
 	counts map[string]int
+	// answers has the bytes of the answers that wait until a user takes them.
+	answers map[string]int64
 }
 
 // Load reads the limits of a folder. `tell` gets a line for the operator where they cannot be read later on.
@@ -30,7 +32,7 @@ func Load(folder string, tell func(format string, values ...any)) (*Limits, erro
 	if err != nil {
 		return nil, err
 	}
-	return &Limits{values: followed, counts: map[string]int{}}, nil
+	return &Limits{values: followed, counts: map[string]int{}, answers: map[string]int64{}}, nil
 }
 
 // Get gives the limits as they are now.
@@ -110,10 +112,13 @@ func (l *Limits) leaver(what string) func() {
 	return func() { once.Do(func() { l.give(what) }) }
 }
 
-// connections is the count of all of them.
-const connections = "connections"
+// connections is the count of all of them but those of the operator's socket, which are socketConnections.
+const (
+	connections       = "connections"
+	socketConnections = "socket"
+)
 
-// Connections is how many connections there are.
+// Connections is how many connections there are, without those of the operator's socket.
 func (l *Limits) Connections() int {
 	l.mutex.Lock()
 	defer l.mutex.Unlock()
@@ -122,16 +127,27 @@ func (l *Limits) Connections() int {
 
 // Listen bounds the connections of a listener, in all and by address: one too many is closed at once. Each Write of a connection has
 // to end within Idle.
-func (l *Limits) Listen(listener net.Listener) net.Listener { return &bounded{listener, l, false} }
+func (l *Limits) Listen(listener net.Listener) net.Listener {
+	return &bounded{Listener: listener, limits: l, all: connections}
+}
+
+// ListenSocket does the same for the operator's socket, whose connections are counted apart: whoever takes all others does not keep the operator out.
+func (l *Limits) ListenSocket(listener net.Listener) net.Listener {
+	return &bounded{Listener: listener, limits: l, all: socketConnections}
+}
 
 // ListenIdle does the same, and each Read has to end within Idle too. It is not for net/http, which reads in the background while it
 // answers.
-func (l *Limits) ListenIdle(listener net.Listener) net.Listener { return &bounded{listener, l, true} }
+func (l *Limits) ListenIdle(listener net.Listener) net.Listener {
+	return &bounded{Listener: listener, limits: l, reads: true, all: connections}
+}
 
+// bounded counts the connections of a listener under `all`.
 type bounded struct {
 	net.Listener
 	limits *Limits
 	reads  bool
+	all    string
 }
 
 // Accept gives the next connection that is not one too many.
@@ -141,7 +157,7 @@ func (b *bounded) Accept() (net.Conn, error) {
 		if err != nil {
 			return nil, err
 		}
-		leave, err := b.limits.connect(host(c.RemoteAddr().String()))
+		leave, err := b.limits.connect(b.all, host(c.RemoteAddr().String()))
 		if err == nil {
 			return &connection{Conn: c, limits: b.limits, reads: b.reads, leave: leave}, nil
 		}
@@ -149,16 +165,16 @@ func (b *bounded) Accept() (net.Conn, error) {
 	}
 }
 
-func (l *Limits) connect(address string) (func(), error) {
+func (l *Limits) connect(all, address string) (func(), error) {
 	values := l.Get()
-	if !l.take(connections, values.Connections) {
+	if !l.take(all, values.Connections) {
 		return nil, ErrConnections
 	}
 	if address != "" && !l.take("address "+address, values.PerAddress) {
-		l.give(connections)
+		l.give(all)
 		return nil, ErrConnections
 	}
-	both := []func(){l.leaver(connections), func() {}}
+	both := []func(){l.leaver(all), func() {}}
 	if address != "" {
 		both[1] = l.leaver("address " + address)
 	}
@@ -218,6 +234,9 @@ type Values struct {
 	RequestBytes, Quota, JournalBytes, ChildMemory int64
 	DailyBytes                                     int64
 	SaveEvery, FrameIdle, DailyChild               time.Duration
+	StreamBytes, AnswerBytes                       int64
+	StreamAge                                      time.Duration
+	StreamsByUser, StreamsByTenant                 int
 	Quotas, UserBytes                              map[string]int64
 	UserChild                                      map[string]time.Duration
 }

@@ -253,3 +253,55 @@ func TestParseBytes(t *testing.T) {
 		}
 	}
 }
+
+func TestStreamsOfAUserAndATenant(t *testing.T) {
+	l, _ := loaded(t, "streams-by-user 2\nstreams-by-tenant 3\n")
+	enter := func(user, tenant string, want error) func() {
+		t.Helper()
+		leave, err := l.EnterStream(user, tenant)
+		if err != want {
+			t.Fatal(user, tenant, err)
+		}
+		return leave
+	}
+	first := enter("alice", "a", nil)
+	enter("alice", "b", nil)
+	enter("alice", "c", ErrStreamsOfUser)
+	enter("bob", "a", nil)
+	last := enter("carol", "a", nil)
+	enter("dora", "a", ErrStreamsOfTenant)
+	first()
+	first()
+	enter("dora", "a", nil)
+	enter("alice", "a", ErrStreamsOfTenant)
+	last()
+	enter("alice", "a", nil)
+	enter("alice", "d", ErrStreamsOfUser)
+}
+
+func TestAnswersThatWait(t *testing.T) {
+	l, _ := loaded(t, "answer-bytes 100\n")
+	wait := func(user string, bytes int, want error) func() {
+		t.Helper()
+		taken, err := l.Wait(user, bytes)
+		if err != want {
+			t.Fatal(user, bytes, err)
+		}
+		return taken
+	}
+	wait("alice", 101, ErrAnswer)
+	first := wait("alice", 60, nil)
+	wait("alice", 0, nil)()
+	wait("alice", 41, ErrAnswers)
+	wait("bob", 100, nil)
+	last := wait("alice", 40, nil)
+	if l.MayWait("alice") != ErrAnswers || l.MayWait("carol") != nil {
+		t.Error("who may wait")
+	}
+	first()
+	wait("alice", 60, nil)()
+	last()
+	if len(l.answers) != 1 || l.MayWait("alice") != nil {
+		t.Error(l.answers)
+	}
+}

@@ -2,6 +2,7 @@
 package metrics
 
 import (
+	"bytes"
 	"fmt"
 	"io"
 	"sort"
@@ -85,20 +86,40 @@ func labelText(labels []string) string {
 	return "{" + strings.Join(parts, ",") + "}"
 }
 
-// Text writes all counts.
+// Text writes all counts. It holds nothing meanwhile: a client may take its time, and what is read may count something itself.
 func (m *Metrics) Text(to io.Writer) {
+	var text bytes.Buffer
+	for _, it := range m.now() {
+		fmt.Fprintf(&text, "# HELP %s %s\n# TYPE %s %s\n", it.name, it.help, it.name, it.kind)
+		if it.read != nil {
+			fmt.Fprintf(&text, "%s %v\n", it.name, it.read())
+		}
+		for _, labels := range sorted(it.values) {
+			fmt.Fprintf(&text, "%s%s %v\n", it.name, labels, it.values[labels])
+		}
+	}
+	_, _ = to.Write(text.Bytes())
+}
+
+// named is a family with its name, and its values as they were.
+type named struct {
+	name string
+	family
+}
+
+// now gives all families in the order of their names.
+func (m *Metrics) now() (all []named) {
 	m.mutex.Lock()
 	defer m.mutex.Unlock()
 	for _, name := range sorted(m.families) {
-		it := m.families[name]
-		fmt.Fprintf(to, "# HELP %s %s\n# TYPE %s %s\n", name, it.help, name, it.kind)
-		if it.read != nil {
-			fmt.Fprintf(to, "%s %v\n", name, it.read())
+		it := named{name, *m.families[name]}
+		it.values = map[string]float64{}
+		for labels, value := range m.families[name].values {
+			it.values[labels] = value
 		}
-		for _, labels := range sorted(it.values) {
-			fmt.Fprintf(to, "%s%s %v\n", name, labels, it.values[labels])
-		}
+		all = append(all, it)
 	}
+	return all
 }
 
 func sorted[T any](of map[string]T) []string {

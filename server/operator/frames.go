@@ -7,12 +7,13 @@ import (
 	"net"
 	"time"
 
+	"gitpoold/child"
 	"gitpoold/frames"
 	"gitpoold/tenants"
 )
 
 const (
-	// mostAhead is how many batches of one connection may be without an answer.
+	// mostAhead is how many answers, or batches of them, may wait for one connection.
 	mostAhead = 256
 	// mostTogether is how many questions go to the child as one batch, where they came together.
 	mostTogether = 64
@@ -25,8 +26,13 @@ type session struct {
 	door    *Door
 	conn    net.Conn
 	in      *bufio.Reader
-	streams map[string]*tenants.FrameStream
+	streams map[string]*stream
 	answers chan func(context.Context) ([]frames.Answer, error)
+
+	// unread are the bytes of answers that wait for the client, and `fed` the pieces that are with the child.
+	unread   *unread
+	fed      []fed
+	fedBytes int
 }
 
 // speakFrames answers frames as `gitpool host` does, until the client ends between frames, a frame is wrong, or the client is silent
@@ -35,7 +41,8 @@ type session struct {
 func (d *Door) speakFrames(ctx context.Context, conn net.Conn, in *bufio.Reader) {
 	ctx, stop := context.WithCancel(ctx)
 	defer stop()
-	s := &session{d, conn, in, map[string]*tenants.FrameStream{}, make(chan func(context.Context) ([]frames.Answer, error), mostAhead)}
+	s := &session{door: d, conn: conn, in: in, streams: map[string]*stream{}, unread: newUnread(d.most),
+		answers: make(chan func(context.Context) ([]frames.Answer, error), mostAhead)}
 	written := make(chan struct{})
 	go func() {
 		defer close(written)
@@ -115,12 +122,11 @@ func (s *session) operate(ctx context.Context, step frames.Step) bool {
 			return s.refuse(68)
 		}
 	case frames.Remove:
-		err = s.door.operate([]string{step.Tenant}, func() error { return s.door.store.Remove(ctx, step.Tenant) })
+		err = s.door.removeTenant(ctx, step.Tenant)
 	case frames.Compact:
-		err = s.door.operate([]string{step.Tenant}, func() error { return s.door.store.Compact(ctx, step.Tenant) })
+		err = s.door.compactTenant(ctx, step.Tenant)
 	case frames.Copy:
-		to := string(step.Body)
-		err = s.door.operate([]string{step.Tenant, to}, func() error { return s.door.store.Copy(ctx, step.Tenant, to) })
+		err = s.door.copyTenant(ctx, step.Tenant, string(step.Body))
 	}
 	switch {
 	case tenants.ErrorNumber(err) == 90:
@@ -131,25 +137,36 @@ func (s *session) operate(ctx context.Context, step frames.Step) bool {
 	return s.tell(frames.Answer{})
 }
 
-// ask asks a question, and those that came together with it.
+// ask asks a question, and those of the same tenant that came together with it. It waits for the answers, and asks those again for which there was
+// no room.
 func (s *session) ask(ctx context.Context, first frames.Step) bool {
 	batch := []frames.Step{first}
-	for len(batch) < mostTogether && s.hasWholeAsk() {
+	for len(batch) < mostTogether && s.hasWholeAsk(first.Tenant) {
 		next, err := frames.ReadStep(s.in)
 		if err != nil {
 			return false
 		}
 		batch = append(batch, next)
 	}
-	wait, err := s.door.site.Pool.Pass(ctx, batch)
-	if err == nil {
-		s.answers <- wait
+	s.settle(ctx, 0, 0)
+	for len(batch) > 0 {
+		s.unread.wait()
+		wait, err := s.door.site.Pool.Pass(child.InRoom(ctx, s.door.most), batch)
+		if err != nil {
+			return false
+		}
+		answers, err := wait(ctx)
+		if err != nil || len(answers) == 0 {
+			return false
+		}
+		s.tell(answers...)
+		batch = batch[len(answers):]
 	}
-	return err == nil
+	return true
 }
 
-// hasWholeAsk tells whether a whole Ask has come already.
-func (s *session) hasWholeAsk() bool {
+// hasWholeAsk tells whether a whole Ask of a tenant has come already.
+func (s *session) hasWholeAsk(tenant string) bool {
 	if s.in.Buffered() < 7 {
 		return false
 	}
@@ -160,7 +177,7 @@ func (s *session) hasWholeAsk() bool {
 	}
 	head, _ = s.in.Peek(name + 4)
 	size := int(head[name])<<24 | int(head[name+1])<<16 | int(head[name+2])<<8 | int(head[name+3])
-	return s.in.Buffered() >= name+4+size
+	return s.in.Buffered() >= name+4+size && string(head[3:name]) == tenant
 }
 
 func (s *session) open(ctx context.Context, name string) bool {
@@ -173,11 +190,11 @@ func (s *session) open(ctx context.Context, name string) bool {
 	}
 	patient, stop := context.WithTimeout(ctx, openPatience)
 	defer stop()
-	stream, err := tenant.OpenFrames(patient)
+	opened, err := tenant.OpenFrames(patient)
 	if err != nil {
 		return s.fail(err)
 	}
-	s.streams[name] = stream
+	s.streams[name] = &stream{FrameStream: opened}
 	return s.tell(frames.Answer{})
 }
 
@@ -186,10 +203,18 @@ func (s *session) feed(ctx context.Context, step frames.Step) bool {
 	if stream == nil {
 		return s.withoutStream(step.Tenant)
 	}
+	stream.takes(step.Body)
+	if stream.printsObjects {
+		s.settle(ctx, 0, 0)
+	} else {
+		s.settle(ctx, mostFed-len(step.Body), mostAhead)
+	}
+	s.unread.wait()
 	wait, err := stream.Feed(ctx, step.Body)
 	if err != nil {
 		return s.fail(err)
 	}
+	s.fed, s.fedBytes = append(s.fed, fed{len(step.Body), wait}), s.fedBytes+len(step.Body)
 	s.answers <- func(ctx context.Context) ([]frames.Answer, error) {
 		answer, err := wait(ctx)
 		if answer.Status == frames.Memory {
@@ -237,8 +262,9 @@ func (s *session) refuse(number int) bool {
 	return s.tell(frames.Answer{Status: frames.Fault, Value: uint64(number)})
 }
 
-func (s *session) tell(answer frames.Answer) bool {
-	s.answers <- func(context.Context) ([]frames.Answer, error) { return []frames.Answer{answer}, nil }
+func (s *session) tell(answers ...frames.Answer) bool {
+	s.unread.add(bytesOf(answers))
+	s.answers <- func(context.Context) ([]frames.Answer, error) { return answers, nil }
 	return true
 }
 
@@ -247,17 +273,15 @@ func (s *session) write(ctx context.Context) {
 	out := bufio.NewWriterSize(s.conn, 1<<16)
 	failed := false
 	for wait := range s.answers {
-		if failed {
-			continue
-		}
 		answers, err := wait(ctx)
-		for i := 0; i < len(answers) && err == nil; i++ {
-			_, err = out.Write(answers[i].AppendTo(nil))
+		for i := 0; i < len(answers) && err == nil && !failed; i++ {
+			_, err = answers[i].WriteTo(out)
 		}
-		if err == nil && len(s.answers) == 0 {
+		if err == nil && !failed && len(s.answers) == 0 {
 			err = out.Flush()
 		}
-		if err != nil {
+		s.unread.add(-bytesOf(answers))
+		if err != nil && !failed {
 			failed = true
 			s.conn.Close()
 		}

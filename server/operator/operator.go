@@ -26,10 +26,12 @@ import (
 type Door struct {
 	site  *site.Site
 	store *shards.Set
+	// most is how many bytes of answers may wait for a client before no further step is taken.
+	most int64
 }
 
 // New gives the socket of a site over the shards that it serves.
-func New(s *site.Site, over *shards.Set) *Door { return &Door{s, over} }
+func New(s *site.Site, over *shards.Set) *Door { return &Door{s, over, mostUnread} }
 
 // Listen makes a socket that only the server's user may open, in the place of one that no server has.
 func Listen(path string) (net.Listener, error) {
@@ -49,7 +51,7 @@ func Listen(path string) (net.Listener, error) {
 
 // Serve answers connections until the context is done; those that are open are closed then, and their streams given up.
 func (d *Door) Serve(ctx context.Context, listener net.Listener) error {
-	listener = d.site.Limits.Listen(listener)
+	listener = d.site.Limits.ListenSocket(listener)
 	var all sync.WaitGroup
 	defer all.Wait()
 	stopped := make(chan struct{})
@@ -153,15 +155,15 @@ func (d *Door) save(ctx context.Context, _ []string) (string, error) {
 }
 
 func (d *Door) copy(ctx context.Context, words []string) (string, error) {
-	return "", d.operate(words[1:], func() error { return d.store.Copy(ctx, words[1], words[2]) })
+	return "", d.copyTenant(ctx, words[1], words[2])
 }
 
 func (d *Door) remove(ctx context.Context, words []string) (string, error) {
-	return "", d.operate(words[1:], func() error { return d.store.Remove(ctx, words[1]) })
+	return "", d.removeTenant(ctx, words[1])
 }
 
 func (d *Door) compact(ctx context.Context, words []string) (string, error) {
-	return "", d.operate(words[1:], func() error { return d.store.Compact(ctx, words[1]) })
+	return "", d.compactTenant(ctx, words[1])
 }
 
 func (d *Door) move(ctx context.Context, words []string) (string, error) {
@@ -170,6 +172,30 @@ func (d *Door) move(ctx context.Context, words []string) (string, error) {
 		return "", fmt.Errorf("%q is no number of a shard", words[2])
 	}
 	return "", d.operate(words[1:2], func() error { return d.store.Move(ctx, words[1], shard) })
+}
+
+// copyTenant copies a tenant, as it is after its last push or checkpoint, to an empty one, to which no push is at work meanwhile.
+func (d *Door) copyTenant(ctx context.Context, from, to string) error {
+	return d.operate([]string{to, from}, d.alone(to, func() error { return d.store.Copy(ctx, from, to) }))
+}
+
+func (d *Door) removeTenant(ctx context.Context, name string) error {
+	return d.operate([]string{name}, d.alone(name, func() error { return d.store.Remove(ctx, name) }))
+}
+
+func (d *Door) compactTenant(ctx context.Context, name string) error {
+	return d.operate([]string{name}, d.alone(name, func() error { return d.store.Compact(ctx, name) }))
+}
+
+// alone gives a call that does something to a tenant while no push is at work.
+func (d *Door) alone(name string, do func() error) func() error {
+	return func() error {
+		tenant, err := d.site.Pool.Tenant(name)
+		if err != nil {
+			return err
+		}
+		return tenant.Alone(do)
+	}
 }
 
 // operate asks something of the store about these tenants. A refusal is told in a sentence.
@@ -228,6 +254,9 @@ func (d *Door) status(context.Context, []string) (string, error) {
 		line("log-appends", log.Appends)
 		line("log-waiting", log.WaitingBytes)
 	}
+	if d.store.IsReplica() {
+		d.tellReplica(line)
+	}
 	line("saves", state.Saves)
 	line("failed-saves", state.FailedSaves)
 	line("last-save", when(state.LastSave))
@@ -236,6 +265,14 @@ func (d *Door) status(context.Context, []string) (string, error) {
 		tellShards(&text, states)
 	}
 	return text.String(), nil
+}
+
+// tellReplica has the lines of a server that follows another one.
+func (d *Door) tellReplica(line func(name string, value any)) {
+	records, seconds := d.store.Behind()
+	line("following", d.store.Follows() != nil)
+	line("behind-records", records)
+	line("behind-seconds", fmt.Sprintf("%.1f", seconds))
 }
 
 func when(t time.Time) string {
@@ -263,6 +300,9 @@ func (d *Door) Measure() {
 	if together(d.store.States()).Log != nil {
 		d.measureLog()
 	}
+	if d.store.IsReplica() {
+		d.measureReplica()
+	}
 	m.Gauge("gitpoold_answering", "1 while questions are answered, 0 while the child is replaced or saves.",
 		number(func(s store.State) int64 { return one(s.IsAnswering) }))
 	m.Gauge("gitpoold_open_streams", "Streams that are open.", number(func(s store.State) int64 { return int64(s.Streams) }))
@@ -288,6 +328,21 @@ func (d *Door) measureLog() {
 		number(func(c journal.RedisCounts) float64 { return c.Seconds }))
 	m.Counter("gitpoold_log_connections_total", "Connections to the Redis of the journal.",
 		number(func(c journal.RedisCounts) float64 { return float64(c.Connections) }))
+}
+
+// measureReplica lets metrics tell how a server stands that follows another one.
+func (d *Door) measureReplica() {
+	m := d.site.Metrics
+	m.Gauge("gitpoold_following", "1 while another server writes the logs, 0 once this one does.",
+		func() float64 { return float64(one(d.store.Follows() != nil)) })
+	m.Gauge("gitpoold_behind_records", "Records of the logs that were not carried out yet.", func() float64 {
+		records, _ := d.store.Behind()
+		return float64(records)
+	})
+	m.Gauge("gitpoold_behind_seconds", "Seconds since which there may be records that were not carried out.", func() float64 {
+		_, seconds := d.store.Behind()
+		return seconds
+	})
 }
 
 func one(is bool) int64 {

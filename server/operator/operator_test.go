@@ -11,8 +11,10 @@ import (
 	"os"
 	"os/exec"
 	"path/filepath"
+	"runtime"
 	"strings"
 	"testing"
+	"time"
 
 	"gitpoold/access"
 	"gitpoold/frames"
@@ -29,6 +31,13 @@ var background = context.Background()
 
 // served starts a door over an empty pool, and gives its folder.
 func served(t testing.TB, limitLines string) string {
+	t.Helper()
+	folder, _ := opened(t, limitLines)
+	return folder
+}
+
+// opened starts a door over an empty pool, and gives its folder and the door.
+func opened(t testing.TB, limitLines string) (string, *Door) {
 	t.Helper()
 	program := os.Getenv("GITPOOL")
 	if program == "" {
@@ -57,7 +66,7 @@ func served(t testing.TB, limitLines string) string {
 		must(t, <-ended)
 		must(t, s.Close(background))
 	})
-	return folder
+	return folder, door
 }
 
 func must(t testing.TB, err error) {
@@ -270,6 +279,48 @@ func TestCommands(t *testing.T) {
 	}
 }
 
+// TestAPushDoesNotMeetTheOperator has a push that has compared the refs of a tenant, and an operator who would change them before it does: one of
+// both is refused, or waits.
+func TestAPushDoesNotMeetTheOperator(t *testing.T) {
+	folder, door := opened(t, "")
+	commit := "commit refs/heads/main\ncommitter a <a@b> 1 +0000\ndata 1\nx\n"
+	push := func(tenant string, judge func(tenants.Refs) error) error {
+		it, err := door.site.Pool.Tenant(tenant)
+		must(t, err)
+		return it.Push(background, judge, func(s *tenants.Stream) error {
+			_, err := s.WriteString(commit)
+			return err
+		})
+	}
+	must(t, push("a", func(tenants.Refs) error { return nil }))
+	must(t, push("b", func(refs tenants.Refs) error {
+		for _, words := range [][]string{{"copy", "a", "b"}, {"remove", "b"}, {"compact", "b"}} {
+			if _, err := Call(folder+"/socket", words...); err == nil || !strings.Contains(err.Error(), "fault 31") {
+				t.Errorf("%v beside a push: %v", words, err)
+			}
+		}
+		return nil
+	}))
+	c, err := door.site.Pool.Tenant("c")
+	must(t, err)
+	result, isOver := make(chan error, 1), false
+	must(t, c.Alone(func() error {
+		go func() {
+			result <- push("c", func(refs tenants.Refs) error {
+				if !isOver || len(refs) == 0 {
+					t.Errorf("the push has not waited for the copy: %v", refs)
+				}
+				return nil
+			})
+		}()
+		time.Sleep(50 * time.Millisecond)
+		err := door.store.Copy(background, "a", "c")
+		isOver = true
+		return err
+	}))
+	must(t, <-result)
+}
+
 func refusesCommands(t *testing.T, call func(words ...string) string) {
 	t.Helper()
 	for want, words := range map[string][]string{
@@ -282,6 +333,58 @@ func refusesCommands(t *testing.T, call func(words ...string) string) {
 	} {
 		if got := call(words...); !strings.Contains(got, want) {
 			t.Errorf("%v: %q", words, got)
+		}
+	}
+}
+
+// TestStrangersDoNotKeepTheOperatorOut has strangers who have all connections that there may be.
+func TestStrangersDoNotKeepTheOperatorOut(t *testing.T) {
+	folder, door := opened(t, "connections 2\nconnections-by-address 2\n")
+	inner, err := net.Listen("tcp", "127.0.0.1:0")
+	must(t, err)
+	defer inner.Close()
+	listener := door.site.Limits.Listen(inner)
+	go func() {
+		for {
+			if _, err := listener.Accept(); err != nil {
+				return
+			}
+		}
+	}()
+	for door.site.Limits.Connections() < 2 {
+		conn, err := net.Dial("tcp", inner.Addr().String())
+		must(t, err)
+		defer conn.Close()
+		time.Sleep(10 * time.Millisecond)
+	}
+	if text, err := Call(folder+"/socket", "status"); err != nil || !strings.Contains(text, "connections        2\n") {
+		t.Fatal(text, err)
+	}
+}
+
+// TestBrokenConnectionsLeaveNothing breaks connections off in many ways, and looks at what runs and what is open still.
+func TestBrokenConnectionsLeaveNothing(t *testing.T) {
+	folder, door := opened(t, "")
+	open := frames.Step{Kind: frames.Open, Tenant: "a"}.AppendTo(nil)
+	feed := frames.Step{Kind: frames.Feed, Tenant: "a", Body: []byte("progress x\n")}.AppendTo(nil)
+	question := frames.Step{Kind: frames.Ask, Tenant: "a", Body: []byte("refs")}.AppendTo(nil)
+	all := [][]byte{{}, []byte("sta"), []byte("status\n"), open, open[:3], append(open[:len(open):len(open)], feed...),
+		append(open[:len(open):len(open)], feed[:len(feed)-2]...), bytes.Repeat(question, 500), append(bytes.Repeat(question, 50), 99)}
+	_, err := Call(folder+"/socket", "status")
+	must(t, err)
+	time.Sleep(100 * time.Millisecond)
+	before := runtime.NumGoroutine()
+	for at := 0; at < 1000; at++ {
+		conn, err := net.Dial("unix", folder+"/socket")
+		must(t, err)
+		_, _ = conn.Write(all[at%len(all)])
+		conn.Close()
+	}
+	left := func() int { return runtime.NumGoroutine() - before + together(door.store.States()).Streams }
+	for until := time.Now().Add(20 * time.Second); left() > 0; time.Sleep(10 * time.Millisecond) {
+		if time.Now().After(until) {
+			text := make([]byte, 1<<20)
+			t.Fatalf("%d goroutines and streams are left:\n%s", left(), text[:runtime.Stack(text, true)])
 		}
 	}
 }

@@ -37,9 +37,9 @@ var ErrTooMuch = errors.New("the request has more lines than this server takes")
 
 // Reader reads packets. What follows the last one is left in the reader below it.
 type Reader struct {
-	in    *bufio.Reader
-	left  int64
-	index [4]byte
+	in         *bufio.Reader
+	most, left int64
+	index      [4]byte
 }
 
 // leastCost is what a line counts at least: to hold a short line takes more than its bytes.
@@ -47,8 +47,11 @@ const leastCost = 64
 
 // NewReader makes a reader of at most so many bytes of lines; a short line counts as 64 of them.
 func NewReader(in *bufio.Reader, most int64) *Reader {
-	return &Reader{in: in, left: most}
+	return &Reader{in: in, most: most, left: most}
 }
+
+// Renew lets the reader take as many bytes again as at its beginning: another request begins, and nothing is kept of those before.
+func (r *Reader) Renew() { r.left = r.most }
 
 // Next gives the next packet. The error is io.EOF only if the input ends before a packet; inside of one it is
 // io.ErrUnexpectedEOF. The text lasts as long as the caller wants.

@@ -14,7 +14,7 @@ ELSEWHERE = {
     # The helper's own protocol, the pool file, or folders on this machine:
     "from_odd_places", "relative_pools", "limits_are_told", "wrong_addresses", "two_pushes_at_once", "many_pushes_at_once",
     "a_push_that_is_killed", "an_interrupted_push", "a_pool_that_cannot_be_saved", "a_broken_local_repository",
-    "a_push_sends_what_is_missing", "what_was_there_before_is_used_again",
+    "a_push_sends_what_is_missing", "what_was_there_before_is_used_again", "rooms_that_killed_fetches_left_go",
     "a_fetch_asks_for_what_is_missing", "objects_that_no_ref_reaches_are_used", "progress_as_git_shows_it", "two_tenants", "all_or_nothing",
     "many_refs_of_all_kinds", "lists_of_refs",
     "a_ref_that_is_kept_is_no_fast_forward",

@@ -11,7 +11,6 @@ import (
 	"gitpoold/child"
 	"gitpoold/daily"
 	"gitpoold/hooks"
-	"gitpoold/logs"
 	"gitpoold/pack"
 	"gitpoold/pktline"
 	"gitpoold/receivepack"
@@ -115,12 +114,8 @@ func (u Use) tell(result receivepack.Result) {
 	push := hooks.Push{Tenant: u.Tenant.Name(), User: u.User, Options: result.Options}
 	for _, it := range result.Changes {
 		push.Changes = append(push.Changes, hooks.Change{Ref: it.Ref, Old: it.Old.String(), New: it.New.String()})
-		u.Site.Log.Change(logs.Change{Address: u.Address, User: u.User, Tenant: u.Tenant.Name(), Ref: it.Ref,
-			Old: it.Old.String(), New: it.New.String()})
 	}
-	if u.Site.Hooks != nil && len(push.Changes) > 0 {
-		u.Site.Hooks.Tell(push)
-	}
+	u.Site.Changed(u.Address, push)
 }
 
 // Counting counts the bytes that pass.

@@ -79,7 +79,7 @@ func (s *Set) move(ctx context.Context, tenant string, to int) error {
 	}
 	if failed := s.settle(tenant); failed != nil {
 		s.config.Store.Tell("what %s left in another shard is not removed yet: %v", tenant, failed)
-		go s.settleSoon(tenant)
+		s.settleApart(tenant)
 	}
 	return err
 }
@@ -108,7 +108,11 @@ func (s *Set) bring(ctx context.Context, tenant string, from, to int) error {
 	if err := s.stores[from-1].Extract(ctx, tenant, file); err != nil {
 		return named(from, len(s.stores), err)
 	}
-	if err := s.stores[to-1].Merge(ctx, file); err != nil {
+	err := s.stores[to-1].Merge(ctx, file)
+	if err == nil {
+		err = s.stores[to-1].PutAnswers(tenant, s.stores[from-1].Answers(tenant))
+	}
+	if err != nil {
 		return named(to, len(s.stores), err)
 	}
 	return nil
@@ -178,6 +182,22 @@ func (s *Set) settle(tenant string) error {
 	return s.table.note(frames.Step{Kind: journal.Settled, Tenant: tenant})
 }
 
+// settleApart lets a tenant be settled as soon as that can be done, unless somebody is at it.
+func (s *Set) settleApart(tenant string) {
+	s.mutex.Lock()
+	defer s.mutex.Unlock()
+	if s.settling[tenant] {
+		return
+	}
+	s.settling[tenant] = true
+	go func() {
+		s.settleSoon(tenant)
+		s.mutex.Lock()
+		defer s.mutex.Unlock()
+		delete(s.settling, tenant)
+	}()
+}
+
 // settleSoon settles a tenant as soon as that can be done.
 func (s *Set) settleSoon(tenant string) {
 	for {
@@ -213,7 +233,7 @@ func (s *Set) readAgain(t *table) {
 		return
 	}
 	for _, tenant := range t.pending() {
-		go s.settleSoon(tenant)
+		s.settleApart(tenant)
 	}
 }
 

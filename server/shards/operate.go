@@ -28,6 +28,9 @@ func linesOf(reply []byte) (all []line) {
 
 // operate lets one request of the operator at a time change tenants.
 func (s *Set) operate(ctx context.Context, do func() error) error {
+	if err := s.refusal(); err != nil {
+		return err
+	}
 	select {
 	case s.operator <- struct{}{}:
 		defer func() { <-s.operator }()
@@ -55,13 +58,13 @@ func (s *Set) Compact(ctx context.Context, tenant string) error {
 
 // Copy copies a tenant, as it is at its last checkpoint, to an empty one, which comes to the same shard. It may be Refused.
 func (s *Set) Copy(ctx context.Context, from, to string) error {
-	if s.table == nil {
-		return s.stores[0].Copy(ctx, from, to)
-	}
 	return s.operate(ctx, func() error { return s.copy(ctx, from, to) })
 }
 
 func (s *Set) copy(ctx context.Context, from, to string) error {
+	if s.table == nil {
+		return s.stores[0].Copy(ctx, from, to)
+	}
 	number := s.shardOf(from)
 	arrived, err := s.hold(ctx, to)
 	if err != nil {

@@ -34,6 +34,12 @@ type place struct {
 type table struct {
 	journal journal.Journal
 	count   int
+	// writers is held by each who writes a record until the table has it too, and locked while the log is renewed.
+	writers sync.RWMutex
+	// following is the journal where another server writes it, and `turn` is held by whoever takes its records; else it is nil.
+	following *journal.Following
+	turn      sync.Mutex
+	followed  chan struct{}
 
 	mutex   sync.Mutex
 	places  map[string]place
@@ -90,16 +96,29 @@ func (s *Set) openTableLog(t *table) (journal.Journal, error) {
 			}()
 		}
 	}
-	return journal.OpenRedis(options, journal.Digest{})
+	if s.config.Follow == nil {
+		return journal.OpenRedis(options, journal.Digest{})
+	}
+	var err error
+	t.following, err = journal.Follow(options, journal.Digest{}, s.config.refusal())
+	return t.following, err
 }
 
-// read reads the table from its log.
+// read reads the table from its log. Who waits for a record that the log has lost is told so first: other records may get the same numbers.
 func (t *table) read() error {
+	t.writers.Lock()
+	defer t.writers.Unlock()
 	t.mutex.Lock()
 	defer t.mutex.Unlock()
 	t.journal.Resume()
 	t.places, t.tenants = map[string]place{}, make([]int, t.count)
-	return t.journal.Records(journal.Digest{}, t.take)
+	if err := t.journal.Records(journal.Digest{}, t.take); err != nil {
+		return err
+	}
+	if t.following != nil {
+		t.following.Arrive(t.following.Number())
+	}
+	return nil
 }
 
 var errPlace = errors.New("a record of the table of places names a shard that there is not")
@@ -189,6 +208,8 @@ func (t *table) pending() (tenants []string) {
 // place gives the shard of a tenant. One that has none gets that which `choose` names, by the numbers of tenants of all shards; the place is in
 // the log and synced when place returns it.
 func (t *table) place(tenant string, choose func(tenants []int) int) (int, error) {
+	t.writers.RLock()
+	defer t.writers.RUnlock()
 	t.mutex.Lock()
 	it := t.places[tenant]
 	if it.shard == 0 {
@@ -233,6 +254,8 @@ func (t *table) put(tenant string, shard int) error {
 // putAll notes records of places, and changes the table once they are synced.
 func (t *table) putAll(steps []frames.Step) error {
 	const atOnce = 1000
+	t.writers.RLock()
+	defer t.writers.RUnlock()
 	var last uint64
 	for at := 0; at < len(steps); at += atOnce {
 		end := at + atOnce
@@ -260,6 +283,8 @@ func (t *table) putAll(steps []frames.Step) error {
 
 // note writes a record, and changes the table once that is synced. On an error the table is as it was.
 func (t *table) note(step frames.Step) error {
+	t.writers.RLock()
+	defer t.writers.RUnlock()
 	number, err := t.journal.Append(step)
 	if err == nil {
 		err = t.journal.Sync(number)
@@ -272,4 +297,9 @@ func (t *table) note(step frames.Step) error {
 	return t.take(journal.Record{Number: number, Step: step})
 }
 
-func (t *table) close() { t.journal.Close() }
+func (t *table) close() {
+	if t.followed != nil {
+		<-t.followed
+	}
+	t.journal.Close()
+}

@@ -14,7 +14,9 @@ import (
 	"path/filepath"
 	"sort"
 	"sync"
+	"sync/atomic"
 
+	"gitpoold/answers"
 	"gitpoold/child"
 	"gitpoold/frames"
 	"gitpoold/journal"
@@ -27,6 +29,8 @@ type Config struct {
 	Store store.Config
 	// Logs are the logs of the shards in Redis, in the order of their numbers; none where the journals are in files.
 	Logs []journal.Options
+	// Follow says that another server writes the logs, which this one follows; nil where this one takes them over at its start.
+	Follow *Follow
 }
 
 // Folder gives the folder of a shard, whose number counts from 1. The first one is the server's folder itself.
@@ -50,6 +54,9 @@ func Count(folder string) int {
 
 // Create makes shards until a folder has so many, and their logs in Redis where there are such. It changes nothing that is there.
 func Create(folder, program string, count int, logs []journal.Options) error {
+	if err := isWhole(folder); err != nil && !errors.Is(err, os.ErrNotExist) {
+		return err
+	}
 	if has := Count(folder); count < has {
 		return fmt.Errorf("the folder has %d shards, and none can be taken away", has)
 	}
@@ -83,9 +90,13 @@ type Set struct {
 	// moving has the tenants on their way, and beginning how many streams of a tenant are being opened.
 	moving    map[string]chan struct{}
 	beginning map[string]int
-	stopping  chan struct{}
-	once      sync.Once
-	stopped   sync.Once
+	// settling has the tenants of which a move is being settled apart.
+	settling map[string]bool
+	stopping chan struct{}
+	once     sync.Once
+	// isFollowing is true until this server writes the logs.
+	isFollowing atomic.Bool
+	stopped     sync.Once
 }
 
 // ErrLogs says that a server was given another number of logs than it has shards.
@@ -93,12 +104,16 @@ var ErrLogs = errors.New("give `--log` once for each shard, in the order in whic
 
 // Open takes all shards of a folder up, and brings moves to their ends that a crash cut off.
 func Open(config Config) (*Set, error) {
+	if err := isWhole(config.Store.Folder); err != nil {
+		return nil, err
+	}
 	count := Count(config.Store.Folder)
 	if len(config.Logs) > 0 && len(config.Logs) != count {
 		return nil, fmt.Errorf("the folder has %d shards, and there are %d logs: %w", count, len(config.Logs), ErrLogs)
 	}
-	s := &Set{config: config, operator: make(chan struct{}, 1), moving: map[string]chan struct{}{}, beginning: map[string]int{},
+	s := &Set{config: config, operator: make(chan struct{}, 1), moving: map[string]chan struct{}{}, beginning: map[string]int{}, settling: map[string]bool{},
 		stopping: make(chan struct{})}
+	s.isFollowing.Store(config.Follow != nil)
 	err := s.open(count)
 	if err != nil {
 		for _, it := range s.stores {
@@ -128,10 +143,27 @@ func (s *Set) open(count int) error {
 			}
 		}
 	}
-	if count == 1 {
+	if s.config.Follow != nil {
+		s.follow()
 		return nil
 	}
-	return s.agree()
+	if count > 1 {
+		if err := s.agree(); err != nil {
+			return err
+		}
+	}
+	s.bringCopies()
+	return nil
+}
+
+// bringCopies brings the copies of the pool files to what these are, once it is known that they go together. The server starts also where
+// that fails.
+func (s *Set) bringCopies() {
+	for _, it := range s.stores {
+		if err := it.BringCopy(context.Background()); err != nil {
+			s.config.Store.Tell("the pool file is not copied: %v", err)
+		}
+	}
 }
 
 // named says of which shard an error is, where there are several.
@@ -144,7 +176,7 @@ func named(number, count int, err error) error {
 
 func (s *Set) storeConfig(number int) store.Config {
 	config := s.config.Store
-	config.Folder, config.Stop = Folder(config.Folder, number), s.stop
+	config.Folder, config.Stop, config.Follows = Folder(config.Folder, number), s.stop, s.config.refusal()
 	if len(s.config.Logs) > 0 {
 		config.Log = &s.config.Logs[number-1]
 	}
@@ -163,7 +195,7 @@ func (s *Set) storeConfig(number int) store.Config {
 func (s *Set) stop(why error) {
 	s.stopped.Do(func() {
 		var bad *journal.BadLog
-		if !errors.As(why, &bad) || !bad.IsTaken {
+		if !errors.As(why, &bad) || bad.IsLoss() {
 			s.mutex.Lock()
 			opened := append([]*store.Store(nil), s.stores...)
 			s.mutex.Unlock()
@@ -203,6 +235,9 @@ func (s *Set) Ask(ctx context.Context, class child.Class, steps ...frames.Step) 
 	if len(s.stores) == 1 {
 		return s.stores[0].Ask(ctx, class, steps...)
 	}
+	if err := s.freshTable(ctx); err != nil {
+		return nil, err
+	}
 	if tenant, isOne := oneTenant(steps); isOne {
 		return s.askOf(ctx, tenant, class, steps)
 	}
@@ -225,6 +260,10 @@ func (s *Set) askOf(ctx context.Context, tenant string, class child.Class, steps
 	for {
 		number := s.shardOf(tenant)
 		answers, err := s.stores[number-1].Ask(ctx, class, steps...)
+		if err == nil {
+			// What was read of the shard's log may be newer than what was read of the table.
+			err = s.freshTable(ctx)
+		}
 		if err != nil || s.shardOf(tenant) == number {
 			return answers, err
 		}
@@ -311,6 +350,9 @@ func (z sizes) Wait(ctx context.Context) ([]frames.Answer, error) {
 
 // Begin opens a stream of a tenant in its shard. One that has no shard gets the one with the fewest bytes. It waits while the tenant is moved.
 func (s *Set) Begin(ctx context.Context, tenant string, form store.Form) (*store.Stream, error) {
+	if err := s.refusal(); err != nil {
+		return nil, err
+	}
 	if s.table == nil {
 		return s.stores[0].Begin(ctx, tenant, form)
 	}
@@ -371,8 +413,14 @@ func (s *Set) emptiest(tenants []int) int {
 // Bytes tells how many bytes a tenant has.
 func (s *Set) Bytes(tenant string) int64 { return s.storeOf(tenant).Bytes(tenant) }
 
+// Kept gives what a tenant's stream with a token was answered, if it ended well and that is kept.
+func (s *Set) Kept(tenant, token string) (answers.Answer, bool) {
+	return s.storeOf(tenant).Kept(tenant, token)
+}
+
 // Usages gives what each tenant has, in the order of their names.
 func (s *Set) Usages() (all []store.Usage) {
+	s.freshAll()
 	if len(s.stores) == 1 {
 		return s.stores[0].Usages()
 	}
@@ -390,10 +438,13 @@ func (s *Set) Usages() (all []store.Usage) {
 // ShardOf gives the number of the shard in which a tenant is; 1 for one that was never pushed to.
 func (s *Set) ShardOf(tenant string) int { return s.shardOf(tenant) }
 
-// States tells how each shard stands.
+// States tells how each shard stands. Where the table of places takes no records, the first one's journal is told to be broken.
 func (s *Set) States() (all []store.State) {
 	for _, it := range s.stores {
 		all = append(all, it.State())
+	}
+	if s.table != nil && s.table.journal.IsBroken() {
+		all[0].JournalBroken = true
 	}
 	return all
 }
@@ -407,6 +458,9 @@ func (s *Set) WantSave() {
 
 // Save saves all shards, one after another. Where one is not saved, the others are all the same; the first error is given.
 func (s *Set) Save(ctx context.Context) error {
+	if s.isFollowing.Load() {
+		return ErrSave
+	}
 	return s.each(func(it *store.Store) error { return it.Save(ctx) })
 }
 
@@ -429,6 +483,9 @@ func (s *Set) Keep(ctx context.Context, rhythm func() store.Rhythm) {
 			defer all.Done()
 			it.Keep(ctx, rhythm)
 		}(it)
+	}
+	if s.table != nil {
+		s.keepTable(ctx)
 	}
 	all.Wait()
 }

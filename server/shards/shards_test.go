@@ -1,14 +1,17 @@
 package shards
 
 import (
+	"bytes"
 	"context"
 	"errors"
 	"fmt"
 	"os"
 	"os/exec"
 	"path/filepath"
+	"runtime"
 	"strings"
 	"sync"
+	"sync/atomic"
 	"testing"
 	"time"
 
@@ -192,6 +195,256 @@ func TestTenantsAreSpreadAndStayWhereTheyAre(t *testing.T) {
 		t.Fatal(all)
 	}
 	must(t, s.Close(background))
+}
+
+// TestCopiesAreThereAtTheStart has copies of pool files that are gone, or of another time: a start brings them to what the pool files are.
+func TestCopiesAreThereAtTheStart(t *testing.T) {
+	c := inFiles(t, 2)
+	c.Store.Copy = filepath.Join(t.TempDir(), "shared.pool")
+	must(t, opened(t, c).Close(background))
+	first, err := os.ReadFile(c.Store.Copy)
+	must(t, err)
+	s := opened(t, c)
+	must(t, push(s, "a", "m0"))
+	must(t, push(s, "b", "m0"))
+	must(t, s.Close(background))
+	must(t, os.WriteFile(c.Store.Copy, first, 0o600))
+	must(t, os.Remove(c.Store.Copy+"-2"))
+	s = opened(t, c)
+	defer s.Close(background)
+	for number, path := range []string{c.Store.Copy, c.Store.Copy + "-2"} {
+		copied, err := os.ReadFile(path)
+		must(t, err)
+		pool, err := os.ReadFile(filepath.Join(Folder(c.Store.Folder, number+1), "pool"))
+		must(t, err)
+		if !bytes.Equal(copied, pool) || bytes.Equal(copied, first) {
+			t.Fatalf("%s is not the copy of the pool file", path)
+		}
+	}
+}
+
+// TestTheTableOfPlacesHeals has a log of the table that can neither be written nor cut: tenants that have a place are served meanwhile, and what was
+// told of places is there after it.
+func TestTheTableOfPlacesHeals(t *testing.T) {
+	c := inFiles(t, 2)
+	s := opened(t, c)
+	must(t, push(s, "a", "m0"))
+	must(t, push(s, "b", "m0"))
+	must(t, s.Move(background, "a", 3-s.ShardOf("a")))
+	must(t, s.table.note(frames.Step{Kind: journal.Moving, Tenant: "b", Body: bodyOf(3 - s.ShardOf("b"))}))
+	places := map[string]int{"a": s.ShardOf("a"), "b": s.ShardOf("b")}
+	must(t, s.table.journal.Close())
+	if err := push(s, "c", "m0"); err == nil || !s.States()[0].JournalBroken {
+		t.Fatalf("a new tenant has a place: %v", err)
+	}
+	must(t, push(s, "a", "m1"))
+	if isHealed, err := s.table.heal(); !isHealed {
+		t.Fatal(err)
+	}
+	must(t, push(s, "c", "m0"))
+	places["c"] = s.ShardOf("c")
+	if first, last := s.table.journal.Segments(); first != 2 || last != 2 {
+		t.Fatalf("the log has segments %d to %d", first, last)
+	}
+	crash(s)
+	s = opened(t, c)
+	for tenant, number := range places {
+		isIn(t, s, tenant, number)
+	}
+	hasMessages(t, s, "a", "m0", "m1")
+	must(t, s.Close(background))
+}
+
+// pushTwo lets two refs of a tenant hold a new commit, in several pieces of one push.
+func pushTwo(s *Set, tenant string, at int) error {
+	st, err := s.Begin(background, tenant, store.Whole)
+	if err != nil {
+		return err
+	}
+	defer st.GiveUp()
+	for _, piece := range []string{header, fmt.Sprintf("commit refs/heads/main\ncommitter a <a@b> %d +0000\ndata 1\nx\n", at+1),
+		"reset refs/heads/other\nfrom refs/heads/main\n\n"} {
+		if _, err := st.Feed(background, []byte(piece)); err != nil {
+			return err
+		}
+	}
+	_, err = st.Commit(background, []byte("done\n"))
+	return err
+}
+
+// TestACopyIsOfOneState copies a tenant again and again while pushes change two of its refs together.
+func TestACopyIsOfOneState(t *testing.T) {
+	s := opened(t, inFiles(t, 2))
+	defer s.Close(background)
+	must(t, pushTwo(s, "a", 0))
+	pushed := make(chan error, 1)
+	go func() {
+		for at := 1; at < 40; at++ {
+			if err := pushTwo(s, "a", at); err != nil {
+				pushed <- err
+				return
+			}
+		}
+		pushed <- nil
+	}()
+	states := map[string]bool{}
+	for at := 0; at < 40; at++ {
+		name := fmt.Sprint("copy", at)
+		must(t, s.Copy(background, "a", name))
+		answer, err := asked(s, name, "refs")
+		must(t, err)
+		words := strings.Fields(string(answer.Reply))
+		if len(words) != 4 || words[0] != words[2] {
+			t.Fatalf("%s has %q", name, answer.Reply)
+		}
+		states[words[0]] = true
+	}
+	must(t, <-pushed)
+	if len(states) < 2 {
+		t.Fatal("no push came between two copies")
+	}
+}
+
+// late is a journal that syncs when it is told to, and counts how often it was resumed.
+type late struct {
+	journal.Journal
+	syncs   chan error
+	resumed atomic.Int64
+}
+
+func (l *late) Sync(uint64) error { return <-l.syncs }
+
+func (l *late) Resume() { l.resumed.Add(1) }
+
+// TestATableIsReadAgainAfterItsWriters has a writer that is not told yet that its record is lost: the log takes no others under its number before.
+func TestATableIsReadAgainAfterItsWriters(t *testing.T) {
+	s := opened(t, inFiles(t, 2))
+	defer s.Close(background)
+	log := &late{Journal: s.table.journal, syncs: make(chan error)}
+	s.table.journal = log
+	defer func() { s.table.journal = log.Journal }()
+	told, read := make(chan error, 1), make(chan struct{})
+	go func() { told <- s.table.put("a", 1) }()
+	time.Sleep(20 * time.Millisecond)
+	go func() {
+		s.readAgain(s.table)
+		close(read)
+	}()
+	time.Sleep(50 * time.Millisecond)
+	if log.resumed.Load() > 0 {
+		t.Fatal("the log takes records while a writer waits for one that it has lost")
+	}
+	log.syncs <- journal.ErrUnsure
+	if err := <-told; err != journal.ErrUnsure {
+		t.Fatal(err)
+	}
+	<-read
+}
+
+// TestAShardThatIsMissingIsTold has folders of shards that are gone, as where a disk is not mounted: neither a start nor an init takes what is left
+// for all.
+func TestAShardThatIsMissingIsTold(t *testing.T) {
+	c := inFiles(t, 3)
+	s := opened(t, c)
+	for _, tenant := range []string{"a", "b", "c"} {
+		must(t, push(s, tenant, "m0"))
+	}
+	must(t, s.Close(background))
+	away := t.TempDir()
+	for _, gone := range [][]int{{2}, {2, 3}} {
+		for _, number := range gone {
+			must(t, os.Rename(Folder(c.Store.Folder, number), Folder(away, number)))
+		}
+		var missing *Missing
+		if _, err := Open(c); !errors.As(err, &missing) || missing.Folder != Folder(c.Store.Folder, 2) {
+			t.Fatalf("a start without the shards %v: %v", gone, err)
+		}
+		if err := Create(c.Store.Folder, c.Store.Program, 3, nil); !errors.As(err, &missing) {
+			t.Fatalf("an init without the shards %v: %v", gone, err)
+		}
+		for _, number := range gone {
+			must(t, os.Rename(Folder(away, number), Folder(c.Store.Folder, number)))
+		}
+	}
+	s = opened(t, c)
+	defer s.Close(background)
+	for _, tenant := range []string{"a", "b", "c"} {
+		hasMessages(t, s, tenant, "m0")
+	}
+}
+
+// TestATenantIsSettledByOne has a table that is read again many times while a move cannot be settled.
+func TestATenantIsSettledByOne(t *testing.T) {
+	s := opened(t, inFiles(t, 2))
+	must(t, push(s, "a", "m0"))
+	must(t, s.table.note(frames.Step{Kind: journal.Moving, Tenant: "a", Body: bodyOf(3 - s.ShardOf("a"))}))
+	s.operator <- struct{}{}
+	before := runtime.NumGoroutine()
+	for range make([]int, 50) {
+		s.readAgain(s.table)
+	}
+	if more := runtime.NumGoroutine() - before; more > 1 {
+		t.Errorf("%d goroutines settle one tenant", more)
+	}
+	<-s.operator
+	for until := time.Now().Add(20 * time.Second); len(s.table.pending()) > 0; time.Sleep(10 * time.Millisecond) {
+		if time.Now().After(until) {
+			t.Fatal("the move is not settled")
+		}
+	}
+	must(t, s.Close(background))
+}
+
+// placing gives places to new tenants until it is stopped, and gives those that were told.
+func placing(s *Set, at int, stop <-chan struct{}) map[string]int {
+	told := map[string]int{}
+	for count := 0; ; count++ {
+		select {
+		case <-stop:
+			return told
+		default:
+		}
+		tenant := fmt.Sprintf("t%d-%d", at, count)
+		if number, err := s.table.place(tenant, func([]int) int { return 1 + count%2 }); err == nil {
+			told[tenant] = number
+		}
+	}
+}
+
+// TestPlacesThatAreToldOutliveManyFailures gives places to tenants while the log of the table fails and heals again and again.
+func TestPlacesThatAreToldOutliveManyFailures(t *testing.T) {
+	const writers = 4
+	c := inFiles(t, 2)
+	s := opened(t, c)
+	told, stop := make(chan map[string]int, writers), make(chan struct{})
+	for at := 0; at < writers; at++ {
+		go func(at int) { told <- placing(s, at, stop) }(at)
+	}
+	for round := 0; round < 10; round++ {
+		time.Sleep(10 * time.Millisecond)
+		must(t, s.table.journal.Close())
+		for isHealed := false; !isHealed; {
+			isHealed, _ = s.table.heal()
+		}
+	}
+	close(stop)
+	var all []map[string]int
+	for at := 0; at < writers; at++ {
+		all = append(all, <-told)
+	}
+	crash(s)
+	s = opened(t, c)
+	defer s.Close(background)
+	for _, places := range all {
+		if len(places) == 0 {
+			t.Fatal("no place was told")
+		}
+		for tenant, number := range places {
+			if found := s.ShardOf(tenant); found != number {
+				t.Fatalf("%s is in shard %d, and was told to be in %d", tenant, found, number)
+			}
+		}
+	}
 }
 
 // TestAnEmptyShardIsFilledFirst adds a shard to a server that had one: its tenants stay, and new ones go to the new one.

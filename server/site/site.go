@@ -2,7 +2,9 @@
 package site
 
 import (
+	"context"
 	"errors"
+	"time"
 
 	"gitpoold/access"
 	"gitpoold/daily"
@@ -37,6 +39,8 @@ type Site struct {
 	Work string
 	// Version is that of the program.
 	Version string
+	// Elsewhere gives the sentence with which pushes are refused while another server takes them; nil, or one that gives nil, takes pushes.
+	Elsewhere func() error
 	// SSHPort is where git finds the server over ssh, 0 where it does not; pages show it.
 	SSHPort int
 	// Markdown writes a README for pages; nil shows it as text.
@@ -44,11 +48,15 @@ type Site struct {
 }
 
 // Open gives a tenant to a user who wants this right to it; the user "" is a visitor without a password. What it answers depends on
-// grants alone, and not on whether the tenant has anything.
+// grants and blocks alone, and not on whether the tenant has anything. It is *access.Blocked where the operator has blocked the user, or the
+// tenant, if the user may read that.
 func (s *Site) Open(user, tenant string, right access.Right) (tenants.Tenant, error) {
 	has := access.None
 	if tenants.ValidName(tenant) {
 		has = s.Access.Right(user, tenant)
+	}
+	if err := s.Access.Blocked(user, "", right); err != nil {
+		return tenants.Tenant{}, err
 	}
 	switch {
 	case has == access.None:
@@ -56,5 +64,49 @@ func (s *Site) Open(user, tenant string, right access.Right) (tenants.Tenant, er
 	case has < right:
 		return tenants.Tenant{}, ErrReadOnly
 	}
+	if err := s.Access.Blocked(user, tenant, right); err != nil {
+		return tenants.Tenant{}, err
+	}
+	if right == access.Write && s.Elsewhere != nil {
+		if err := s.Elsewhere(); err != nil {
+			return tenants.Tenant{}, err
+		}
+	}
 	return s.Pool.Tenant(tenant)
+}
+
+// lookEvery is how often the blocks are looked at for a user who is at work.
+const lookEvery = 200 * time.Millisecond
+
+// Watch gives a context for a user who is at work on a tenant. Where the operator blocks one of the two, the context ends, and `cut` is called
+// with the refusal, which ends the connection. The call that is given ends the watch.
+func (s *Site) Watch(ctx context.Context, user, tenant string, right access.Right, cut func(error)) (context.Context, func()) {
+	watched, stop := context.WithCancel(ctx)
+	go func() {
+		ticker := time.NewTicker(lookEvery)
+		defer ticker.Stop()
+		for {
+			select {
+			case <-watched.Done():
+				return
+			case <-ticker.C:
+			}
+			if err := s.Access.Blocked(user, tenant, right); err != nil {
+				cut(err)
+				stop()
+				return
+			}
+		}
+	}()
+	return watched, stop
+}
+
+// Changed tells the log and the hooks which refs a user's push or stream changed.
+func (s *Site) Changed(address string, push hooks.Push) {
+	for _, it := range push.Changes {
+		s.Log.Change(logs.Change{Address: address, User: push.User, Tenant: push.Tenant, Ref: it.Ref, Old: it.Old, New: it.New})
+	}
+	if s.Hooks != nil && len(push.Changes) > 0 {
+		s.Hooks.Tell(push)
+	}
 }

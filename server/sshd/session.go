@@ -6,10 +6,12 @@ import (
 	"fmt"
 	"io"
 	"strings"
+	"sync/atomic"
 	"time"
 
 	"golang.org/x/crypto/ssh"
 
+	"gitpoold/access"
 	"gitpoold/daily"
 	"gitpoold/logs"
 	"gitpoold/pktline"
@@ -20,6 +22,7 @@ import (
 // session is one command of a connection.
 type session struct {
 	*server
+	conn          *ssh.ServerConn
 	channel       ssh.Channel
 	user, address string
 	protocol      string
@@ -30,6 +33,8 @@ const (
 	ended  = 0
 	failed = 1
 	usage  = 2
+	away   = 4
+	memory = 5
 )
 
 // serve takes requests up to the one for a command, and carries it out.
@@ -53,7 +58,7 @@ func (s *session) serve(ctx context.Context, requests <-chan *ssh.Request) {
 			return
 		case "shell":
 			reply(request, true)
-			fmt.Fprintf(s.channel.Stderr(), "Hello %s. This server speaks git alone, and has no shell.\r\n", s.user)
+			fmt.Fprintf(s.channel.Stderr(), "Hello %s. This server speaks git, takes import, ask and frames, and has no shell.\r\n", s.user)
 			s.exit(failed)
 			return
 		default:
@@ -99,55 +104,100 @@ func (s *session) say(why string) uint32 {
 	return failed
 }
 
+// words says which commands there are.
+const words = "this server takes git-upload-pack and git-receive-pack with one path in quotes; import TENANT [--token WORD]; ask TENANT QUERY;" +
+	" and frames TENANT; and no other command"
+
 // run carries out a command, and gives the status with which it ends.
 func (s *session) run(ctx context.Context, payload []byte) uint32 {
 	var exec struct{ Command string }
 	if ssh.Unmarshal(payload, &exec) != nil {
 		return usage
 	}
+	if it, ok := parseVerb(exec.Command); ok {
+		return s.runVerb(ctx, it)
+	}
 	service, path, ok := parseCommand(exec.Command)
 	if !ok {
-		s.say("this server takes git-upload-pack and git-receive-pack with one path in quotes, and no other command")
+		s.say(words)
 		return usage
 	}
-	leave, err := s.Limits.Enter(s.user, s.address)
+	t, meter, leave, err := s.enter(tenantOf(path), services.Right(service))
 	if err != nil {
 		return s.say(err.Error())
 	}
 	defer leave()
-	meter := s.Daily.Meter(s.user, s.address)
-	if err := meter.Err(); err != nil {
-		return s.say(err.Error())
+	ctx, stop := context.WithTimeout(ctx, s.Limits.Get().Request)
+	defer stop()
+	record := &logs.Request{User: s.user, Tenant: t.Name(), What: service}
+	// Whoever waits for the client cannot tell it.
+	blocked := func(why error) { go s.say(why.Error()) }
+	if err := s.timed(ctx, record, services.Right(service), blocked, func(ctx context.Context) error {
+		return s.service(ctx, s.use(service, t, meter, record))
+	}); err != nil {
+		record.Status = failed
 	}
-	t, err := s.Open(s.user, tenantOf(path), services.Right(service))
-	if err != nil {
-		return s.say(err.Error())
-	}
-	return s.timed(ctx, service, t, meter)
+	s.Log.Request(*record)
+	return uint32(record.Status)
 }
 
-// timed carries out a service, and ends it after the time that the operator gives.
-func (s *session) timed(ctx context.Context, service string, t tenants.Tenant, meter *daily.Meter) uint32 {
-	ctx, stop := context.WithTimeout(ctx, s.Limits.Get().Request)
+// enter lets the user in to a tenant, and gives what counts the session and the call that counts it no more.
+func (s *session) enter(tenant string, right access.Right) (t tenants.Tenant, meter *daily.Meter, leave func(), err error) {
+	leave, err = s.Limits.Enter(s.user, s.address)
+	if err != nil {
+		return t, nil, nil, err
+	}
+	meter = s.Daily.Meter(s.user, s.address)
+	if err = meter.Err(); err == nil {
+		t, err = s.Open(s.user, tenant, right)
+	}
+	if err != nil {
+		leave()
+	}
+	return t, meter, leave, err
+}
+
+// timed carries out what a record tells of. The session is cut off where the context ends before, and where the operator blocks the user or the
+// tenant: `blocked` is told then, and it is the error.
+func (s *session) timed(ctx context.Context, record *logs.Request, right access.Right, blocked func(error), do func(context.Context) error) error {
+	var refusal atomic.Value
+	ctx, stop := s.Watch(ctx, s.user, record.Tenant, right, func(why error) {
+		refusal.Store(why)
+		blocked(why)
+	})
 	defer stop()
 	finished := make(chan struct{})
 	defer close(finished)
 	go func() {
 		select {
 		case <-ctx.Done():
-			s.channel.Close()
+			s.cut(finished)
 		case <-finished:
 		}
 	}()
-	record := logs.Request{Protocol: "ssh", Address: s.address, User: s.user, Tenant: t.Name(), What: service}
+	record.Protocol, record.Address = "ssh", s.address
 	began := time.Now()
-	record.Err = s.service(ctx, s.use(service, t, meter, &record))
-	record.Took = time.Since(began)
-	if record.Err != nil {
-		record.Status = failed
+	err := do(ctx)
+	if why, is := refusal.Load().(error); is {
+		err = why
 	}
-	s.Log.Request(record)
-	return uint32(record.Status)
+	record.Took, record.Err = time.Since(began), err
+	return err
+}
+
+// grace is how long a session that is cut off has to tell why.
+const grace = 300 * time.Millisecond
+
+// cut ends a session, and its connection where the client does not let the session end.
+func (s *session) cut(finished <-chan struct{}) {
+	for _, end := range []func() error{s.channel.Close, s.conn.Close} {
+		select {
+		case <-finished:
+			return
+		case <-time.After(grace):
+			_ = end()
+		}
+	}
 }
 
 func (s *session) use(service string, t tenants.Tenant, meter *daily.Meter, record *logs.Request) services.Use {

@@ -1,4 +1,5 @@
-// Package sshd serves Git over ssh: git-upload-pack and git-receive-pack, and no other command.
+// Package sshd serves Git over ssh: git-upload-pack and git-receive-pack; and the commands import, ask and frames, for clients without a protocol
+// of Git. It takes no other command.
 package sshd
 
 import (
@@ -19,13 +20,14 @@ const mostSessions = 10
 // server answers the connections for one site.
 type server struct {
 	*site.Site
-	running sync.WaitGroup
+	running  sync.WaitGroup
+	stopping <-chan struct{}
 }
 
 // Serve answers connections until ctx is done. Then it takes no more, lets those sessions end that have begun, for a while, and
 // returns.
 func Serve(ctx context.Context, listener net.Listener, s *site.Site, hostKey ssh.Signer) error {
-	it := &server{Site: s}
+	it := &server{Site: s, stopping: ctx.Done()}
 	sessions, stop := context.WithCancel(context.Background())
 	defer stop()
 	go func() {
@@ -117,6 +119,9 @@ func (s *server) connection(ctx context.Context, c net.Conn, hostKey ssh.Signer)
 	}
 	defer conn.Close()
 	go ssh.DiscardRequests(requests)
+	done := make(chan struct{})
+	defer close(done)
+	go s.keepAlive(conn, done)
 	s.sessions(ctx, conn, channels)
 }
 
@@ -135,13 +140,26 @@ func (s *server) sessions(ctx context.Context, conn *ssh.ServerConn, channels <-
 			continue
 		}
 		idle.Stop()
+		channel = &patient{channel, s.Limits, func() { conn.Close() }}
 		running.Add(1)
 		go func() {
 			defer running.Done()
-			defer func() { <-places }()
-			it := &session{server: s, channel: channel, user: conn.Permissions.Extensions[userKey], address: host(conn.RemoteAddr())}
+			defer s.free(places, idle)
+			it := &session{server: s, conn: conn, channel: channel, user: conn.Permissions.Extensions[userKey],
+				address: host(conn.RemoteAddr())}
 			it.serve(ctx, requests)
 		}()
+	}
+}
+
+// free gives the place of a session back. A connection without sessions ends after a while, whatever else its client sends.
+func (s *server) free(places chan struct{}, idle *time.Timer) {
+	if <-places; len(places) > 0 {
+		return
+	}
+	idle.Reset(s.Limits.Get().Idle)
+	if len(places) > 0 {
+		idle.Stop()
 	}
 }
 

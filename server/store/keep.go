@@ -17,9 +17,22 @@ type Rhythm struct {
 
 const (
 	lookEvery = time.Second
-	// afterFailure is how long nothing is saved by itself after a save failed: each try costs a load of the pool file.
+	// afterFailure is how long nothing is saved by itself after a save failed: each try writes a pool file. While the journal takes no records
+	// until a save goes well, it is whileBroken.
 	afterFailure = 10 * time.Minute
+	whileBroken  = 30 * time.Second
 )
+
+// pauseAfter is how long nothing is saved by itself after a save.
+func (s *Store) pauseAfter(failed error) time.Duration {
+	switch {
+	case failed == nil:
+		return 0
+	case s.journal.IsHealedBySave():
+		return whileBroken
+	}
+	return afterFailure
+}
 
 // WantSave asks Keep for a save.
 func (s *Store) WantSave() {
@@ -47,15 +60,13 @@ func (s *Store) Keep(ctx context.Context, rhythm func() Rhythm) {
 		if !isWanted && (time.Since(last) < pause || !s.isDue(rhythm(), last)) {
 			continue
 		}
-		last, pause = time.Now(), 0
-		if err := s.Save(ctx); err != nil {
-			pause = afterFailure
-		}
+		last = time.Now()
+		pause = s.pauseAfter(s.Save(ctx))
 	}
 }
 
 func (s *Store) isDue(now Rhythm, last time.Time) bool {
-	return s.journal.Bytes() > now.JournalBytes || s.journal.IsHealedBySave() || s.journal.HasSteps() && time.Since(last) > now.SaveEvery
+	return s.journal.Bytes() > now.JournalBytes || s.journal.IsHealedBySave() || s.isCopyLate.Load() || s.journal.HasSteps() && time.Since(last) > now.SaveEvery
 }
 
 // endStalled ends a child that works without an answer for too long; `watch`, or the save that waits for it, starts another one.

@@ -15,6 +15,7 @@ import (
 	"testing"
 	"time"
 
+	"gitpoold/answers"
 	"gitpoold/child"
 	"gitpoold/frames"
 )
@@ -79,6 +80,7 @@ func pushAndTell(s *Store, tenant, text string) {
 		_, err = pending.Wait(background)
 	}
 	if err == nil {
+		st.Keep(answers.New(text, []byte(tenant)))
 		_, err = st.Commit(background, []byte("done\n"))
 	}
 	if err != nil {
@@ -168,6 +170,7 @@ func judge(t *testing.T, folder, fault, told string) {
 	for i := 0; i < tenants; i++ {
 		tenant := fmt.Sprint("t", i)
 		history[tenant] = messages(t, s, tenant)
+		judgeTokens(t, s, fault, tenant, history[tenant])
 		if refs := ask(t, s, tenant, "refs"); strings.Contains(refs, "lost") {
 			t.Fatalf("%s: a stream that was given up left %q", fault, refs)
 		}
@@ -185,6 +188,20 @@ func judge(t *testing.T, folder, fault, told string) {
 	}
 	if said, err := exec.Command(program(t), "check", "--pool", folder+"/pool").CombinedOutput(); err != nil {
 		t.Fatalf("%s: the pool file is bad: %s", fault, said)
+	}
+}
+
+// judgeTokens asks that each push has its token's answer where it is there, and none where it is not.
+func judgeTokens(t *testing.T, s *Store, fault, tenant string, history map[string]int) {
+	t.Helper()
+	for round := 0; round < rounds; round++ {
+		for k := 0; k < each; k++ {
+			token := fmt.Sprintf("m%d.%d", round, k)
+			kept, found := s.Kept(tenant, token)
+			if found != (history[token] == 1) || found && string(kept.Reply) != tenant {
+				t.Fatalf("%s: the push %s of %s is there %d times, and its token is kept: %v", fault, token, tenant, history[token], found)
+			}
+		}
 	}
 }
 

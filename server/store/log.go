@@ -36,6 +36,9 @@ func (s *Store) openJournal(pool journal.Digest) error {
 	}
 	options := *s.config.Log
 	options.Place, options.Tell, options.Stale, options.Lost = s.folder(placeName), s.config.Tell, s.replaceChild, s.lost
+	if s.config.Follows != nil {
+		return s.openFollowed(options, pool)
+	}
 	opened, err := journal.OpenRedis(options, pool)
 	if err == nil {
 		s.journal = opened
@@ -118,7 +121,7 @@ func isOfLog(err error) bool {
 // lost ends the server: its log is another server's now, or lost records. Then the child has what the log lost, so it is kept in a file.
 func (s *Store) lost(why error) {
 	var bad *journal.BadLog
-	if !errors.As(why, &bad) || !bad.IsTaken {
+	if !errors.As(why, &bad) || bad.IsLoss() {
 		s.Rescue()
 	}
 	s.config.Stop(why)
@@ -140,6 +143,7 @@ func (s *Store) rescue() {
 		if err = s.steps.shut(ctx); err == nil {
 			defer s.steps.open()
 			err = s.saveTo(s.process, s.folder(rescuedName))
+			s.rescueAnswers()
 		}
 	}
 	if err != nil {
@@ -161,7 +165,33 @@ func (s *Store) copyPool() error {
 	if s.config.Copy == "" {
 		return nil
 	}
-	return copySynced(s.folder("pool"), s.config.Copy)
+	err := copySynced(s.folder("pool"), s.config.Copy)
+	s.isCopyLate.Store(err != nil)
+	if err != nil {
+		return fmt.Errorf("%s: %w", s.config.Copy, err)
+	}
+	return nil
+}
+
+// BringCopy copies the pool file where its copy is not there or is another file, as after the operator has put a pool file in place. Where
+// that fails, it is tried again like a save that failed.
+func (s *Store) BringCopy(ctx context.Context) error {
+	if err := s.beginMaintenance(ctx); err != nil {
+		return err
+	}
+	defer s.endMaintenance()
+	return s.bringCopy()
+}
+
+func (s *Store) bringCopy() error {
+	pool, err := poolfile.Digest(s.folder("pool"))
+	if err != nil || s.config.Copy == "" {
+		return err
+	}
+	if digest, err := poolfile.Digest(s.config.Copy); err == nil && digest == pool {
+		return nil
+	}
+	return s.copyPool()
 }
 
 // copySynced copies a file, which appears whole under its new name.
@@ -170,10 +200,12 @@ func copySynced(from, to string) error {
 	if err := os.Remove(next); err != nil && !errors.Is(err, os.ErrNotExist) {
 		return err
 	}
-	if err := copyFile(from, next); err != nil {
-		return err
+	err := copyFile(from, next)
+	if err == nil {
+		err = os.Rename(next, to)
 	}
-	if err := os.Rename(next, to); err != nil {
+	if err != nil {
+		os.Remove(next)
 		return err
 	}
 	return syncFolder(filepath.Dir(to))

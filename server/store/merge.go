@@ -122,6 +122,10 @@ func (s *Store) merge(ctx context.Context, file string) error {
 	if err != nil {
 		return err
 	}
+	if err := s.bringFollowers(file); err != nil {
+		next.end()
+		return err
+	}
 	return s.putInPlace(merged, next)
 }
 
@@ -181,7 +185,7 @@ func (s *Store) putInPlace(merged string, next started) error {
 	}
 	faultpoint.Here("after a merged pool file is synced")
 	if err := s.copyPool(); err != nil {
-		return fmt.Errorf("%s: %w", s.config.Copy, err)
+		return err
 	}
 	return s.journal.Drop()
 }
@@ -192,6 +196,9 @@ func (s *Store) exchange(merged string, next started) (old started, err error) {
 	_ = s.steps.shut(context.Background())
 	defer s.steps.open()
 	digest, err := poolfile.Digest(merged)
+	if err == nil {
+		err = s.saveAnswers()
+	}
 	if err == nil {
 		err = s.journal.Begin(journal.Digest(digest), nil)
 	}

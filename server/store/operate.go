@@ -34,15 +34,13 @@ func (s *Store) operate(ctx context.Context, changed string, step frames.Step) e
 	if number == 0 {
 		return err
 	}
-	if err != nil {
-		if _, isRefused := err.(*Refused); !isRefused {
-			answers, lost := s.outcome(outcome)
-			if err = lost; err == nil {
-				_, err = replies(answers)
-			}
-		}
+	if _, isRefused := err.(*Refused); (err == nil || isRefused) && s.forget(number) {
+		return err
 	}
-	s.forget(number)
+	answers, err := s.outcome(outcome)
+	if err == nil {
+		_, err = replies(answers)
+	}
 	return err
 }
 
@@ -76,6 +74,7 @@ func (s *Store) sendRequest(ctx context.Context, changed string, step frames.Ste
 		return 0, nil, s.takeRequestBack(number, err)
 	}
 	if err == nil {
+		s.keepAgain(step, frames.Answer{})
 		err = s.readSizes(s.process)
 	}
 	return number, outcome, err

@@ -1,6 +1,7 @@
 package store
 
 import (
+	"bytes"
 	"errors"
 	"os"
 	"path/filepath"
@@ -228,6 +229,57 @@ func TestMoves(t *testing.T) {
 	s = opened(t, c)
 	defer s.Close(background)
 	hasMessages(t, s, "a", "refs/heads/main", []string{"m0", "m1"})
+}
+
+// TestAnOtherPoolFileIsCopied has an operator who puts another pool file in place while the server is stopped: its copy follows, by itself
+// or by the next save.
+func TestAnOtherPoolFileIsCopied(t *testing.T) {
+	from := config(t, folder(t))
+	s := opened(t, from)
+	pushAll(t, s, "m0", "m1")
+	if err := s.Close(background); err != nil {
+		t.Fatal(err)
+	}
+	c := plain(t, folder(t))
+	c.Copy = filepath.Join(t.TempDir(), "shared.pool")
+	for _, bring := range []func(*Store) error{
+		func(s *Store) error { return s.BringCopy(background) }, func(s *Store) error { return s.Save(background) },
+	} {
+		if err := os.WriteFile(c.Copy, []byte("an older pool file of another length"), 0o600); err != nil {
+			t.Fatal(err)
+		}
+		if err := os.RemoveAll(filepath.Join(c.Folder, "journal")); err != nil {
+			t.Fatal(err)
+		}
+		copied(t, filepath.Join(from.Folder, "pool"), c.Folder)
+		s = opened(t, c)
+		if err := bring(s); err != nil {
+			t.Fatal(err)
+		}
+		crash(s)
+		isSame(t, c.Copy, filepath.Join(c.Folder, "pool"))
+	}
+}
+
+// isSame asks that two files have the same bytes.
+func isSame(t testing.TB, one, other string) {
+	t.Helper()
+	first, err := os.ReadFile(one)
+	second, errSecond := os.ReadFile(other)
+	if err != nil || errSecond != nil || !bytes.Equal(first, second) {
+		t.Fatalf("%s is not %s: %v %v", one, other, err, errSecond)
+	}
+}
+
+// TestACopyThatIsCutOffIsRemoved has a file that cannot be read to its end.
+func TestACopyThatIsCutOffIsRemoved(t *testing.T) {
+	to := filepath.Join(t.TempDir(), "pool")
+	if err := copySynced(t.TempDir(), to); err == nil {
+		t.Fatal("a folder is copied")
+	}
+	if left, err := os.ReadDir(filepath.Dir(to)); err != nil || len(left) > 0 {
+		t.Fatalf("%v is left: %v", left, err)
+	}
 }
 
 // TestACopyThatFails has a path to which no pool file can be copied: the save is told to have failed, and the log keeps all.

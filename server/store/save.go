@@ -25,20 +25,38 @@ const saveWithin = 30 * time.Minute
 // errNotSaved says that the child could not write the pool file. It has what it had, and so has the file.
 var errNotSaved = errors.New("the child did not save")
 
-// Save brings the pool file to what the store has, and drops the journal's segments before. It does nothing where the pool file is
-// up to date. On an error the pool file and the journal together have everything, as before.
+// Save brings the pool file to what the store has, and drops the journal's segments before. Where the pool file is up to date, it sees to
+// its copy alone, and where this store follows, it does nothing: then it saves where the other server does. On an error the pool file and the
+// journal together have everything, as before.
 func (s *Store) Save(ctx context.Context) error {
+	if s.isFollowing() {
+		return nil
+	}
 	if err := s.beginMaintenance(ctx); err != nil {
 		return err
 	}
 	defer s.endMaintenance()
 	if !s.journal.HasSteps() && !s.journal.IsHealedBySave() {
+		if err := s.bringCopy(); err != nil {
+			return err
+		}
+		s.dropKept()
 		return nil
 	}
 	began := time.Now()
 	err := s.save(ctx)
 	s.noteSave(began, err)
 	return err
+}
+
+// dropKept lets a log in Redis drop what it keeps for servers that follow it, if there are none any more.
+func (s *Store) dropKept() {
+	if s.config.Log == nil {
+		return
+	}
+	if err := s.journal.Drop(); err != nil {
+		s.config.Tell("%v", err)
+	}
 }
 
 // beginMaintenance waits for its turn among what only one may do at a time: saves, requests of the operator, and another child.
@@ -57,9 +75,19 @@ func (s *Store) save(ctx context.Context) error {
 	if err := s.writeAndBegin(ctx); err != nil {
 		return err
 	}
+	if err := s.renamePool(); err != nil {
+		return err
+	}
+	if err := s.copyPool(); err != nil {
+		return fmt.Errorf("%s: %w", s.config.Copy, err)
+	}
+	return s.journal.Drop()
+}
+
+// renamePool makes the pool file that the child has written the one of this store.
+func (s *Store) renamePool() error {
 	faultpoint.Here("before the pool file is renamed")
-	next := filepath.Join(s.work(), "pool")
-	if err := os.Rename(next, s.folder("pool")); err != nil {
+	if err := os.Rename(filepath.Join(s.work(), "pool"), s.folder("pool")); err != nil {
 		return err
 	}
 	faultpoint.Here("after the pool file is renamed")
@@ -67,10 +95,7 @@ func (s *Store) save(ctx context.Context) error {
 		return err
 	}
 	faultpoint.Here("after the pool file is synced")
-	if err := s.copyPool(); err != nil {
-		return fmt.Errorf("%s: %w", s.config.Copy, err)
-	}
-	return s.journal.Drop()
+	return nil
 }
 
 // writeAndBegin has the child write the pool file, and begins the segment of what comes after it. No step comes in between, so what is in
@@ -80,26 +105,35 @@ func (s *Store) writeAndBegin(ctx context.Context) error {
 		return err
 	}
 	defer s.steps.open()
-	faultpoint.Here("before the child saves")
-	if _, err := s.requestOf(s.process, frames.Step{Kind: frames.Save, Body: frames.AsOpened}); err != nil {
-		return fmt.Errorf("%w: %v", errNotSaved, err)
-	}
-	faultpoint.Here("after the child has saved")
-	next := filepath.Join(s.work(), "pool")
-	if err := os.RemoveAll(next); err != nil {
-		return err
-	}
-	if err := linkOrCopy(filepath.Join(s.room, "pool"), next); err != nil {
-		return err
-	}
-	digest, err := poolfile.Digest(next)
+	digest, err := s.writePool(s.process, s.room)
 	if err != nil {
 		return err
 	}
 	if err := s.readSizes(s.process); err != nil {
 		return err
 	}
-	return s.journal.Begin(journal.Digest(digest), s.openNumbers())
+	if err := s.saveAnswers(); err != nil {
+		return err
+	}
+	return s.journal.Begin(digest, s.openNumbers())
+}
+
+// writePool has a child write the pool file that is to be the next one, and gives its digest.
+func (s *Store) writePool(process *child.Process, room string) (digest journal.Digest, err error) {
+	faultpoint.Here("before the child saves")
+	if _, err := s.requestOf(process, frames.Step{Kind: frames.Save, Body: frames.AsOpened}); err != nil {
+		return digest, fmt.Errorf("%w: %v", errNotSaved, err)
+	}
+	faultpoint.Here("after the child has saved")
+	next := filepath.Join(s.work(), "pool")
+	if err := os.RemoveAll(next); err != nil {
+		return digest, err
+	}
+	if err := linkOrCopy(filepath.Join(room, "pool"), next); err != nil {
+		return digest, err
+	}
+	found, err := poolfile.Digest(next)
+	return journal.Digest(found), err
 }
 
 // openNumbers gives the numbers of the Opens of the streams that the child has, in rising order. The gate `steps` is shut.

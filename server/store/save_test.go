@@ -4,6 +4,7 @@ import (
 	"context"
 	"errors"
 	"fmt"
+	"io"
 	"os"
 	"strings"
 	"sync"
@@ -302,6 +303,47 @@ func TestKeepSaves(t *testing.T) {
 		}
 		stop()
 		s.Close(background)
+	}
+}
+
+// TestABrokenJournalIsHealedSoon has a journal whose file fails, and a disk on which a save fails: while no push is taken, a save is tried more often, and
+// the one that goes well lets pushes in.
+func TestABrokenJournalIsHealedSoon(t *testing.T) {
+	s := opened(t, plain(t, folder(t)))
+	defer s.Close(background)
+	pushAll(t, s, "m0")
+	errDisk := errors.New("the disk is full")
+	if s.pauseAfter(nil) != 0 || s.pauseAfter(errDisk) != afterFailure {
+		t.Fatal(s.pauseAfter(nil), s.pauseAfter(errDisk))
+	}
+	if err := s.journal.Close(); err != nil {
+		t.Fatal(err)
+	}
+	if err := push(s, "a", "refs/heads/main", "m1"); err == nil || s.pauseAfter(errDisk) != whileBroken {
+		t.Fatalf("%v; the next save comes after %v", err, s.pauseAfter(errDisk))
+	}
+	if err := s.Save(background); err != nil {
+		t.Fatal(err)
+	}
+	pushAll(t, s, "m1")
+	hasMessages(t, s, "a", "refs/heads/main", []string{"m0", "m1"})
+}
+
+// TestAChildThatCannotBeStartedLeavesNothing has a pool file that can be neither linked nor copied, as on a full disk: each try leaves no file.
+func TestAChildThatCannotBeStartedLeavesNothing(t *testing.T) {
+	s := opened(t, config(t, folder(t)))
+	defer s.Close(background)
+	before, err := os.ReadDir(s.work())
+	if err != nil {
+		t.Fatal(err)
+	}
+	for _, pool := range []string{s.folder("nowhere"), s.work()} {
+		if _, _, err := s.startChild(pool, io.Discard); err == nil {
+			t.Fatal("a child has no pool file")
+		}
+	}
+	if after, err := os.ReadDir(s.work()); err != nil || len(after) != len(before) {
+		t.Fatalf("%d files are left, and there were %d: %v", len(after), len(before), err)
 	}
 }
 

@@ -32,7 +32,7 @@ func (s *Store) start() error {
 	if err != nil {
 		return err
 	}
-	if err := s.carryOut(process, journal.Digest(digest)); err != nil {
+	if err := s.carryOut(process, room, journal.Digest(digest)); err != nil {
 		process.Kill()
 		os.RemoveAll(room)
 		return &loadError{err, said.last()}
@@ -67,22 +67,26 @@ func (s *Store) startChild(pool string, said io.Writer) (*child.Process, string,
 	if err != nil {
 		return nil, "", err
 	}
-	file := filepath.Join(room, "pool")
-	if err := linkOrCopy(pool, file); err != nil {
-		return nil, "", err
-	}
-	words := []string{s.config.Program, "host", "--pool", file}
-	if s.config.ChildMemory > 0 {
-		kilobytes := strconv.FormatInt(s.config.ChildMemory/1024, 10)
-		words = append([]string{"sh", "-c", `ulimit -v "$0" && exec "$@"`, kilobytes}, words...)
-	}
-	process, err := child.Start(words, said)
+	process, err := s.startChildIn(room, pool, said)
 	if err != nil {
 		os.RemoveAll(room)
 		return nil, "", err
 	}
 	faultpoint.SetChild(process.Pid())
 	return process, room, nil
+}
+
+func (s *Store) startChildIn(room, pool string, said io.Writer) (*child.Process, error) {
+	file := filepath.Join(room, "pool")
+	if err := linkOrCopy(pool, file); err != nil {
+		return nil, err
+	}
+	words := []string{s.config.Program, "host", "--pool", file}
+	if s.config.ChildMemory > 0 {
+		kilobytes := strconv.FormatInt(s.config.ChildMemory/1024, 10)
+		words = append([]string{"sh", "-c", `ulimit -v "$0" && exec "$@"`, kilobytes}, words...)
+	}
+	return child.Start(words, said)
 }
 
 // linkOrCopy gives a file a second name, or copies it where the file system has no links. A save of the child replaces the name.
@@ -145,6 +149,9 @@ func (s *Store) revive() {
 			return
 		}
 		s.config.Tell("no child could be started: %v", err)
+		if s.isFollowing() && isOfLog(err) && !errors.Is(err, journal.ErrUnread) {
+			s.lost(err)
+		}
 		if wait > time.Second/4 && !isOfLog(err) {
 			s.takeBackUntold()
 		}
@@ -159,13 +166,12 @@ func (s *Store) revive() {
 	}
 }
 
-// takeBackUntold takes back what nobody was told of, where the journal cannot be carried out with them. What cannot be taken back stays.
+// takeBackUntold takes back what nobody was told of, where the journal cannot be carried out with them. What cannot be taken back stays. From
+// here on nobody tells of these but by what comes of it.
 func (s *Store) takeBackUntold() {
 	s.mutex.Lock()
-	untold := map[uint64]end{}
-	for number, it := range s.ends {
-		untold[number] = it
-	}
+	untold := s.ends
+	s.ends = map[uint64]end{}
 	s.mutex.Unlock()
 	for number, it := range untold {
 		var err error
@@ -175,9 +181,12 @@ func (s *Store) takeBackUntold() {
 			err = s.takeBack(it.tenant)
 		}
 		if err == nil {
-			s.forget(number)
 			it.answer <- frames.Answer{Status: frames.Fault, Value: 90}
+			continue
 		}
+		s.mutex.Lock()
+		s.ends[number] = it
+		s.mutex.Unlock()
 	}
 }
 
@@ -190,17 +199,24 @@ type replay struct {
 	waiting []sent
 	// answers are those that somebody may wait for.
 	answers map[uint64]frames.Answer
+	// ended has the tenants whose last stream has ended, where the log is followed: what comes of other streams is not known yet. Else it is nil.
+	// fed has the bytes of streams whose Ends have no answer yet, by the numbers of these.
+	ended map[string]bool
+	fed   map[uint64]int64
 }
 
 // fate is what became of what is in the journal, by the numbers of records: the Opens whose streams have an End that was not taken back,
-// and the operator's requests that were taken back.
-type fate struct{ ended, takenBack map[uint64]bool }
+// those whose End was, and the operator's requests that were taken back.
+type fate struct{ ended, withdrawn, takenBack map[uint64]bool }
 
 // replayed is a stream that is open in the journal. One that leaves nothing is left out.
 type replayed struct {
 	form      Form
 	hasEnd    bool
 	isLeftOut bool
+	fed       int64
+	// held is the last piece of a Whole stream, where the log is followed: its refs change with that piece, so it waits for the End.
+	held *journal.Record
 }
 
 type sent struct {
@@ -212,7 +228,10 @@ type sent struct {
 const replayAhead = 64
 
 // carryOut carries out the journal, and waits until the child has done so.
-func (s *Store) carryOut(process *child.Process, pool journal.Digest) error {
+func (s *Store) carryOut(process *child.Process, room string, pool journal.Digest) error {
+	if isFollowing, err := s.carryOutFollowed(process, room, pool); isFollowing {
+		return err
+	}
 	s.journal.Resume()
 	fate, err := s.fateOf(pool)
 	if err != nil {
@@ -239,7 +258,7 @@ func (s *Store) carryOut(process *child.Process, pool journal.Digest) error {
 
 // fateOf looks through the journal for what became of its streams and requests.
 func (s *Store) fateOf(pool journal.Digest) (fate, error) {
-	found, open := fate{map[uint64]bool{}, map[uint64]bool{}}, map[string]uint64{}
+	found, open := fate{map[uint64]bool{}, map[uint64]bool{}, map[uint64]bool{}}, map[string]uint64{}
 	err := s.journal.Records(pool, func(r journal.Record) error {
 		switch r.Step.Kind {
 		case frames.Open:
@@ -247,7 +266,10 @@ func (s *Store) fateOf(pool journal.Digest) (fate, error) {
 		case frames.End:
 			found.ended[open[r.Step.Tenant]] = true
 		case journal.GivenUp:
-			delete(found.ended, open[r.Step.Tenant])
+			if number := open[r.Step.Tenant]; found.ended[number] {
+				delete(found.ended, number)
+				found.withdrawn[number] = true
+			}
 		case journal.TakenBack:
 			if len(r.Step.Body) == 8 {
 				found.takenBack[binary.BigEndian.Uint64(r.Step.Body)] = true
@@ -265,9 +287,12 @@ func (r *replay) take(record journal.Record) error {
 	case frames.Open:
 		return r.takeOpen(record)
 	case journal.GivenUp:
+		if r.ended[step.Tenant] {
+			return errTakenBack
+		}
 		return r.takeGivenUp(step.Tenant)
 	case journal.TakenBack:
-		return nil
+		return r.takeTakenBack(step.Body)
 	case frames.Remove, frames.Compact:
 		return r.takeRequest(record, step.Tenant)
 	case frames.Copy:
@@ -277,10 +302,22 @@ func (r *replay) take(record journal.Record) error {
 	if stream == nil || stream.isLeftOut || step.Kind == frames.End && !stream.hasEnd {
 		return nil
 	}
-	if step.Kind == frames.End {
+	if stream.fed += int64(len(step.Body)); step.Kind == frames.End {
 		delete(r.streams, step.Tenant)
+		r.endFollowed(record, stream.fed)
+	}
+	if r.ended != nil && stream.form == Whole {
+		return r.sendHeld(stream, record)
 	}
 	return r.send(record)
+}
+
+// takeTakenBack takes a request of the operator back, which was not carried out if that was known before.
+func (r *replay) takeTakenBack(number []byte) error {
+	if r.ended != nil && len(number) == 8 && !r.fate.takenBack[binary.BigEndian.Uint64(number)] {
+		return errTakenBack
+	}
+	return nil
 }
 
 // takeRequest carries out a request of the operator that changes a tenant. A stream that the tenant has in the journal still was not with
@@ -306,6 +343,11 @@ func (r *replay) takeOpen(record journal.Record) error {
 	}
 	stream.hasEnd = r.fate.ended[record.Number]
 	stream.isLeftOut = stream.form == Whole && !stream.hasEnd
+	if r.ended != nil {
+		delete(r.ended, tenant)
+		stream.hasEnd = !r.fate.withdrawn[record.Number]
+		stream.isLeftOut = stream.form == Whole && !stream.hasEnd
+	}
 	r.streams[tenant] = stream
 	if stream.isLeftOut {
 		return nil
@@ -327,13 +369,20 @@ func (r *replay) takeGivenUp(tenant string) error {
 func (r *replay) drop(tenant string) {
 	stream := r.streams[tenant]
 	delete(r.streams, tenant)
+	if r.ended != nil && stream.form == Checkpoints {
+		r.store.addFed(tenant, stream.fed)
+	}
 	if !stream.isLeftOut {
 		giveUp(context.Background(), r.process, tenant)
 	}
 }
 
 func (r *replay) send(record journal.Record) error {
-	batch, err := r.process.Send(context.Background(), child.Short, record.Step)
+	step := record.Step
+	if step.Kind == frames.End {
+		step.Body = nil
+	}
+	batch, err := r.process.Send(context.Background(), child.Short, step)
 	if err != nil {
 		return err
 	}
@@ -354,11 +403,25 @@ func (r *replay) settle(most int) error {
 		if outOfMemory(answers) {
 			return fmt.Errorf("the child has no memory to carry out the journal: %w", &Refused{90})
 		}
-		if isAwaited(it.record.Step.Kind) {
-			r.answers[it.record.Number] = answers[0]
-		}
+		r.answered(it.record, answers[0])
 	}
 	return nil
+}
+
+// answered notes an answer that somebody may wait for, or what a stream has brought to a tenant.
+func (r *replay) answered(record journal.Record, answer frames.Answer) {
+	if isAwaited(record.Step.Kind) {
+		if r.ended == nil {
+			r.answers[record.Number] = answer
+		}
+		r.store.keepAgain(record.Step, answer)
+	}
+	if fed, has := r.fed[record.Number]; has {
+		delete(r.fed, record.Number)
+		if answer.Status == frames.Ok {
+			r.store.addFed(record.Step.Tenant, fed)
+		}
+	}
 }
 
 // isAwaited tells whether somebody may wait for what comes of a record.

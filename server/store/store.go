@@ -20,6 +20,7 @@ import (
 	"syscall"
 	"time"
 
+	"gitpoold/answers"
 	"gitpoold/child"
 	"gitpoold/frames"
 	"gitpoold/journal"
@@ -55,6 +56,9 @@ type Config struct {
 	Log *journal.Options
 	// Copy is a path to which each save copies the pool file before the journal drops what the file has; empty for none.
 	Copy string
+	// Follows is what a change is told while the store follows a log in Redis that another server writes; nil where this server takes the log
+	// over at its start.
+	Follows error
 	// Stop ends the server at once: the log in Redis is another server's now, or lost records. It does not return.
 	Stop func(why error)
 	// Tell writes a line for the operator.
@@ -66,6 +70,7 @@ type Store struct {
 	config   Config
 	locks    locks
 	journal  journal.Journal
+	follower *follower
 	maintain chan struct{}
 	wanted   chan struct{}
 	stopping chan struct{}
@@ -77,6 +82,10 @@ type Store struct {
 	steps   *gate
 	process *child.Process
 	room    string
+
+	// answers are those of streams with tokens; `keeping` has the Ends whose answers are not among them yet.
+	answers *answers.Kept
+	keeping sync.WaitGroup
 
 	// Each stream is inside `streams`. While that gate is shut, no stream is open and none begins.
 	streams *gate
@@ -90,6 +99,8 @@ type Store struct {
 	total  int64
 	counts Counts
 	taken  atomic.Int64
+	// isCopyLate says that the pool file could not be copied.
+	isCopyLate atomic.Bool
 }
 
 // Counts are what a store did since its start.
@@ -127,12 +138,18 @@ func (s *Store) begin() error {
 	if err != nil {
 		return err
 	}
+	if s.answers, err = answers.Open(s.config.Folder); err != nil {
+		return err
+	}
 	if err := s.openJournal(digest); err != nil {
 		return err
 	}
 	if err := s.start(); err != nil {
 		s.journal.Close()
 		return err
+	}
+	if s.follower != nil {
+		go s.followOn()
 	}
 	return nil
 }
@@ -204,9 +221,10 @@ type Answers interface {
 	Wait(ctx context.Context) ([]frames.Answer, error)
 }
 
-// Ask sends questions to the child in one batch. It waits while the child is replaced, as long as the context lasts.
+// Ask sends questions to the child in one batch. It waits while the child is replaced, as long as the context lasts. A store that follows a log
+// first comes to what the log has; else it is journal.ErrBehind.
 func (s *Store) Ask(ctx context.Context, class child.Class, steps ...frames.Step) (Answers, error) {
-	if err := s.enter(ctx); err != nil {
+	if err := s.enterFresh(ctx); err != nil {
 		return nil, err
 	}
 	defer s.steps.leave()
@@ -292,7 +310,7 @@ func (s *Store) State() State {
 	state := State{Counts: s.Counts(), JournalBytes: s.journal.Bytes(), JournalBroken: s.journal.IsBroken(),
 		Records: s.journal.Number()}
 	state.FirstSegment, state.LastSegment = s.journal.Segments()
-	if log, isRedis := s.journal.(*journal.Redis); isRedis {
+	if log, isRedis := s.journal.(interface{ Counts() journal.RedisCounts }); isRedis {
 		counts := log.Counts()
 		state.Log = &counts
 	}
@@ -332,6 +350,9 @@ func (s *Store) end() {
 	// Whoever waits inside for the child has been told that it is gone.
 	_ = s.steps.shut(context.Background())
 	os.RemoveAll(s.room)
+	if s.follower != nil {
+		<-s.follower.ended
+	}
 	s.journal.Close()
 	s.locks.close()
 }

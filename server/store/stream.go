@@ -5,6 +5,7 @@ import (
 	"errors"
 	"sync"
 
+	"gitpoold/answers"
 	"gitpoold/child"
 	"gitpoold/faultpoint"
 	"gitpoold/frames"
@@ -31,6 +32,8 @@ type Stream struct {
 	mutex    sync.Mutex
 	fed      int64
 	isClosed bool
+	// kept is what the stream was answered before its End, if that is to be kept.
+	kept *answers.Answer
 
 	// These are set inside the gate `steps`, and read while it is shut: the child that has the stream, the number of its Open in the
 	// journal, and how often the journal had lost records before.
@@ -195,14 +198,17 @@ func (st *Stream) Commit(ctx context.Context, last []byte) ([]byte, error) {
 		return nil, err
 	}
 	answers, err := sent.batch.Wait(context.Background())
+	st.keep(answers)
 	switch {
 	case err != nil:
 		// The journal has the End, so the next child carries it out.
 		answers, err = st.store.outcome(sent.outcome)
 	case outOfMemory(answers):
+		st.store.forget(sent.number)
 		err = st.withdraw()
+	case !st.store.forget(sent.number):
+		answers, err = st.store.outcome(sent.outcome)
 	}
-	st.store.forget(sent.number)
 	faultpoint.Here("before a push is told")
 	if err != nil {
 		st.close(false)
@@ -266,7 +272,7 @@ func (st *Stream) sendEnd(ctx context.Context, last []byte) (sentEnd, error) {
 		steps = []frames.Step{{Kind: frames.Feed, Tenant: st.tenant, Body: last}, steps[0]}
 		st.fed += int64(len(last))
 	}
-	number, err := s.journal.Append(steps...)
+	number, err := s.journal.Append(st.noted(steps)...)
 	if err == nil {
 		err = s.journal.Sync(number)
 	}
@@ -274,6 +280,9 @@ func (st *Stream) sendEnd(ctx context.Context, last []byte) (sentEnd, error) {
 		return sentEnd{}, err
 	}
 	st.isEnded = true
+	if st.kept != nil {
+		s.keeping.Add(1)
+	}
 	outcome := s.expect(number, end{tenant: st.tenant})
 	s.taken.Add(int64(len(steps)))
 	faultpoint.Here("before the end is sent")
@@ -345,10 +354,14 @@ func (s *Store) expect(number uint64, it end) <-chan frames.Answer {
 	return it.answer
 }
 
-func (s *Store) forget(number uint64) {
+// forget lets nobody tell what came of what is in the journal under a number, since that is about to be told. It is false where another child has been
+// asked for it, or it is being taken back: then that is what is told.
+func (s *Store) forget(number uint64) bool {
 	s.mutex.Lock()
 	defer s.mutex.Unlock()
+	_, has := s.ends[number]
 	delete(s.ends, number)
+	return has
 }
 
 // outcome waits until another child has carried it out, and gives its answer.

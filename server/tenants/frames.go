@@ -4,6 +4,7 @@ import (
 	"context"
 	"errors"
 
+	"gitpoold/answers"
 	"gitpoold/child"
 	"gitpoold/frames"
 	"gitpoold/journal"
@@ -35,6 +36,38 @@ func (t Tenant) OpenFrames(ctx context.Context) (*FrameStream, error) {
 	}
 	return &FrameStream{inner, unlock}, nil
 }
+
+// OpenOnce opens a stream as OpenFrames does, unless one with this token has ended well before. Then it gives what that one was answered, and
+// no stream. Without a token it opens one in any case.
+func (t Tenant) OpenOnce(ctx context.Context, token string) (*FrameStream, *answers.Answer, error) {
+	stream, err := t.OpenFrames(ctx)
+	// One that had the tenant while this one waited may have had the same token.
+	kept := t.Kept(token)
+	if kept == nil {
+		return stream, nil, err
+	}
+	if err == nil {
+		stream.GiveUp()
+	}
+	return nil, kept, nil
+}
+
+// Kept gives what the stream with a token was answered, if one has ended well and that is kept.
+func (t Tenant) Kept(token string) *answers.Answer {
+	if kept, found := t.pool.store.Kept(t.name, token); found {
+		return &kept
+	}
+	return nil
+}
+
+// AtEnd lets `do` be called when the stream has ended or was given up, while no other stream of the tenant can begin.
+func (s *FrameStream) AtEnd(do func()) {
+	leave := s.leave
+	s.leave = func() { do(); leave() }
+}
+
+// Keep lets what the stream is answered be kept where it ends well: `before` is what it was answered so far, and its token.
+func (s *FrameStream) Keep(before answers.Answer) { s.inner.Keep(before) }
 
 // Feed feeds a piece, and gives the call that waits for the answer.
 func (s *FrameStream) Feed(ctx context.Context, body []byte) (func(context.Context) (frames.Answer, error), error) {
@@ -82,7 +115,10 @@ func (p *Pool) Pass(ctx context.Context, questions []frames.Step) (func(context.
 func ErrorNumber(err error) int {
 	var fault Fault
 	var refused *store.Refused
+	var follows *store.Follows
 	switch {
+	case errors.As(err, &follows):
+		return 68
 	case errors.As(err, &fault):
 		return fault.Number
 	case errors.As(err, &refused):

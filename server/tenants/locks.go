@@ -32,6 +32,18 @@ func (l *locks) take(ctx context.Context, tenant string) (func(), error) {
 	}
 }
 
+// try takes a tenant's lock if nobody has it, and gives the call that leaves it.
+func (l *locks) try(tenant string) (leave func(), isTaken bool) {
+	it := l.user(tenant)
+	select {
+	case it.place <- struct{}{}:
+		return func() { <-it.place; l.leave(tenant, it) }, true
+	default:
+		l.leave(tenant, it)
+		return nil, false
+	}
+}
+
 func (l *locks) user(tenant string) *lock {
 	l.mutex.Lock()
 	defer l.mutex.Unlock()

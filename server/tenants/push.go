@@ -54,6 +54,17 @@ func (t Tenant) Push(ctx context.Context, judge func(Refs) error, feed func(*Str
 	return fromStore(s.run(feed))
 }
 
+// Alone does something that changes the tenant while no push does: a push that has compared the refs it is about to change would change
+// others than it has seen. It is refused under 31 where a push or a stream of frames is at work; a push that comes meanwhile waits.
+func (t Tenant) Alone(do func() error) error {
+	unlock, isTaken := t.pool.locks.try(t.name)
+	if !isTaken {
+		return Fault{31}
+	}
+	defer unlock()
+	return do()
+}
+
 func (t Tenant) judged(ctx context.Context, judge func(Refs) error) error {
 	list, _, err := t.Refs(ctx)
 	if err != nil {

@@ -12,6 +12,7 @@ import (
 	"regexp"
 	"strings"
 
+	"gitpoold/answers"
 	"gitpoold/child"
 	"gitpoold/frames"
 	"gitpoold/store"
@@ -21,6 +22,7 @@ import (
 type Keeper interface {
 	Ask(ctx context.Context, class child.Class, steps ...frames.Step) (store.Answers, error)
 	Begin(ctx context.Context, tenant string, form store.Form) (*store.Stream, error)
+	Kept(tenant, token string) (answers.Answer, bool)
 	Bytes(tenant string) int64
 	Usages() []store.Usage
 }

@@ -17,7 +17,7 @@ import sys
 from typing import Dict, List, Optional, Sequence, Set, Tuple
 
 TOP = os.path.dirname(os.path.dirname(os.path.dirname(os.path.realpath(__file__))))
-sys.path[1:1] = [os.path.join(TOP, "clients"), os.path.join(TOP, "deploy")]
+sys.path.insert(1, os.path.join(TOP, "clients"))
 
 from drawn import cut, drawn
 from gitpool import Answer, Kind, Service, ServiceError, Step
@@ -212,22 +212,24 @@ class Streams:
             for step in [step for steps in self.since for step in steps] + list(it):
                 self.own.step(step)
             if shape(self.own.step, self.name) == told:
-                self.since.append(it)
+                self.since += [it, self.firm(line)]
                 self.may = []
                 self.count("actions without an answer")
-                self.firm(line)
                 return
         raise Differs(f"{self.name!r} has {told!r}, which is none of {len(self.may)} that it may have")
 
-    def firm(self, line: Socket) -> None:
-        """Ends a stream that has nothing, so that what was before it lasts."""
+    def firm(self, line: Socket) -> Steps:
+        """Ends a stream that has nothing, so that what was before it lasts, and gives its steps. A Sentinel may act so late that the service takes no steps
+        once more."""
         steps = (Step(Kind.OPEN, self.name), Step(Kind.END, self.name))
         for step in steps:
             told = line.step(step)
+            if told == Answer(1, 68, b""):
+                raise Unanswered("68")
             if told.status:
                 raise Differs(f"{self.name!r}: {step.kind.name} of a service that is well was told {shown(told)}")
             self.compare(step, told)
-        self.since.append(steps)
+        return steps
 
     def close(self) -> None:
         """Saves the repository apart."""

@@ -20,8 +20,6 @@ class Refused(Exception):
 USER, PASSWORD = "alice", "wonderland"
 LIMITS = {"journal-bytes": "2M", "save-every": "15s", "step": "30s", "connections": "4096", "connections-by-address": "4096",
           "requests-by-user": "1000"}
-# How often a start is tried, and what one says for which a replica was late.
-STARTS, LATE = 5, "too few replicas have the last record"
 
 
 class Service:
@@ -79,17 +77,10 @@ class Service:
         STARTED.append(self.process)
 
     def start(self) -> None:
-        """Starts the server once its Redis servers are there, and waits until it serves. A start for which a replica was late is tried again, as
-        systemd does."""
-        for _ in range(STARTS):
-            wait_until(self.has_redis, "no pairs of Redis servers")
-            self.begin()
-            try:
-                return self.wait_for_doors()
-            except NotThere as error:
-                if LATE not in str(error):
-                    raise
-        raise NotThere("replicas are late at each start")
+        """Starts the server once its Redis servers are there, and waits until it serves."""
+        wait_until(self.has_redis, "no pairs of Redis servers")
+        self.begin()
+        self.wait_for_doors()
 
     def has_redis(self) -> bool:
         """Whether all pairs of Redis servers are as they should be."""

@@ -124,11 +124,16 @@ class Strikes:
         self.service.start()
 
     def clock_jumps(self) -> None:
-        """The clock of a machine with a Redis and that of the Sentinel jump by a day, forward or back."""
-        self.day += self.chance.choice((DAY, -DAY))
+        """The clock of a machine with a Redis and that of the Sentinel jump by a day, forward or back. A Sentinel whose clock went back asks no server for
+        its role until the clock is where it was, so it is started again, as docs/DEPLOY.md says."""
+        jump = self.chance.choice((DAY, -DAY))
+        self.day += jump
         for it in (self.pair().both[0], self.pair().both[1], self.service.sentinel):
             it.jump(self.day)
         self.rest(1)
+        if jump < 0:
+            self.service.sentinel.kill()
+            self.service.sentinel.start()
 
     def redis_full(self) -> None:
         """A Redis has no memory for some time: pushes are refused."""
@@ -288,7 +293,7 @@ class Strikes:
         return pair, key, listed(pair.entries(key))
 
     def refused_start(self, says: Sequence[str]) -> None:
-        """Asks that a start ends with 3, says why, and changes no pool file and no log; those of sound shards may end in a record that says that they
+        """Asks that a start ends with 3, says why, and changes no pool file and no log; those of sound shards may end in records that say that they
         were taken over."""
         service = self.service
         pools, logs = service.pools(), self.logs()
@@ -297,7 +302,7 @@ class Strikes:
         self.has_ended(3, says)
         assert service.pools() == pools, "a refused start changed a pool file"
         for one, other in zip(logs, self.logs()):
-            assert other[: len(one)] == one and len(other) - len(one) < 2, "a refused start changed a log"
+            assert other[: len(one)] == one and all(field(it)[HEAD] == TAKEN_OVER for it in other[len(one) :]), "a refused start changed a log"
 
     def logs(self) -> List[List[Entry]]:
         """The entries of all logs."""
@@ -319,7 +324,6 @@ class Strikes:
         for number, pair in enumerate(service.pairs):
             folder = service.shard_folder(number)
             os.replace(os.path.join(folder, "pool.rescued"), service.pool(number))
-            shutil.copyfile(service.pool(number), service.copy(number))
             os.unlink(os.path.join(folder, "log-place"))
             pair.key += "n"
         os.unlink(os.path.join(service.folder, "places-log-place"))
@@ -380,7 +384,8 @@ def cut_off(server: RedisServer, chance: random.Random) -> None:
     os.truncate(path, max(0, size - chance.randrange(400, 20_000)))
 
 
-TAKEN_OVER = 33
+HEAD, TAKEN_OVER = 16, 33
+"""How many bytes stand before the frame of a record, and the kind of the frame."""
 
 
 def record(number: int, chain: bytes, body: bytes) -> bytes:

@@ -16,7 +16,7 @@ type Server struct {
 	MaySend func() error
 }
 
-// mostLines is how many bytes of lines one request may have.
+// mostLines is how many bytes of lines one request may have: in protocols 0 and 1 a session is one request, in protocol 2 each command is one.
 const mostLines = 32 << 20
 
 // Serve answers a client after Advertise: over http one request, else up to the end of the session. An error was told to the

@@ -283,6 +283,29 @@ func TestCapabilitiesAreFew(t *testing.T) {
 	}
 }
 
+// TestASessionHasManyRequests has a session of protocol 2 whose requests have more lines together than one may have, and one that has too many by itself.
+func TestASessionHasManyRequests(t *testing.T) {
+	m, _ := smallRepository()
+	request := func(count int) []byte {
+		prefixes := bytes.Repeat(lines("ref-prefix "+strings.Repeat("x", 60_000)+"\n"), count)
+		return bytes.Join([][]byte{lines("command=ls-refs\n", "|", "ref-prefix HEAD\n"), prefixes, lines("")}, nil)
+	}
+	out := spoken(m, bytes.Repeat(request(mostLines/60_000*2/3), 4))
+	if got := bytes.Count(out, []byte(" HEAD\n")); got != 4 {
+		t.Fatalf("%d of 4 requests were answered: %.200q", got, out)
+	}
+	if out = spoken(m, request(mostLines/60_000+1)); !bytes.Contains(out, []byte("ERR "+pktline.ErrTooMuch.Error())) {
+		t.Fatalf("%.200q", out)
+	}
+}
+
+// spoken is what a session of protocol 2 is answered.
+func spoken(m *memoryRepository, session []byte) []byte {
+	var out bytes.Buffer
+	_ = Server{}.Serve(context.Background(), m, bufio.NewReader(bytes.NewReader(session)), pktline.NewWriter(&out), 2, false)
+	return out.Bytes()
+}
+
 // longRepository has a history of so many commits, the oldest first.
 func longRepository(count int) (*memoryRepository, []tenants.Name) {
 	m := &memoryRepository{objects: map[tenants.Name]tenants.Object{}, head: "refs/heads/main"}

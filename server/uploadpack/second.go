@@ -28,14 +28,15 @@ type command struct {
 
 func (s Server) serveSecond(ctx context.Context, t Repository, reader *pktline.Reader, out *pktline.Writer, isStateless bool) error {
 	for {
+		reader.Renew()
 		c, err := readCommand(reader)
-		if err == io.EOF || err == nil && c.name == "" {
+		switch {
+		case err == io.EOF || err == nil && c.name == "":
 			return nil
+		case err != nil:
+			return say(out, err)
 		}
-		if err == nil {
-			err = s.carryOut(ctx, t, c, out)
-		}
-		if err != nil || isStateless {
+		if err := s.carryOut(ctx, t, c, out); err != nil || isStateless {
 			return err
 		}
 	}

@@ -45,9 +45,10 @@ class ALibrary(unittest.TestCase):
 
     def test_the_interface_is_that_of_gitpool(self) -> None:
         wanted = {it for it in vars(gitpool.Service) if not it.startswith("_")}
-        # (the library has no packs)
-        self.assertEqual(wanted - set(dir(Service)), {"missing", "entries"})
-        program = {"Listed", "Listing", "connect", "error_of", "find_program", "link_to", "read_answer", "read_step", "write_answer", "write_step"}
+        # (the library has no packs, and reaches no servers elsewhere)
+        self.assertEqual(wanted - set(dir(Service)), {"missing", "entries", "is_remote"})
+        program = {"Listed", "Listing", "connect", "error_of", "find_program", "link_to", "read_answer", "read_step", "remote_of", "write_answer",
+                   "write_step"}
         self.assertEqual(set(gitpool.__all__) - set(gitpool_library.__all__), program)
 
     def test_the_program_reads_what_was_saved_and_the_other_way_round(self) -> None:

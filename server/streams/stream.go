@@ -1,0 +1,224 @@
+package streams
+
+import (
+	"bytes"
+	"context"
+	"time"
+
+	"gitpoold/access"
+	"gitpoold/answers"
+	"gitpoold/frames"
+	"gitpoold/hooks"
+	"gitpoold/limits"
+	"gitpoold/tenants"
+)
+
+// openPatience is how long an Open waits for another stream, or a push, of the same tenant.
+const openPatience = 5 * time.Second
+
+// stream is a stream that is open, with what its limits count.
+type stream struct {
+	Use
+	inner  *tenants.FrameStream
+	until  time.Time
+	most   int64
+	room   int64
+	taken  int64
+	answer answers.Answer
+	// blocked has the refusal where the user or the tenant is blocked meanwhile.
+	blocked chan error
+	over    chan struct{}
+	unwatch func()
+	leave   func()
+	isOver  bool
+}
+
+// open opens a stream, unless one with this token has ended well: then it gives what that one was answered, whatever the limits say, and no stream.
+func (u Use) open(ctx context.Context, token string) (*stream, *answers.Answer, error) {
+	if kept := u.Tenant.Kept(token); kept != nil {
+		return nil, kept, nil
+	}
+	room, err := u.Tenant.Room()
+	if err == nil {
+		err = u.mayGoOn()
+	}
+	if err != nil {
+		return nil, nil, err
+	}
+	leave, err := u.Site.Limits.EnterStream(u.User, u.Tenant.Name())
+	if err != nil {
+		return nil, nil, err
+	}
+	patient, stop := context.WithTimeout(ctx, openPatience)
+	defer stop()
+	inner, kept, err := u.Tenant.OpenOnce(patient, token)
+	if inner == nil {
+		leave()
+		return nil, kept, err
+	}
+	values := u.Site.Limits.Get()
+	s := &stream{Use: u, inner: inner, until: time.Now().Add(values.StreamAge), most: values.StreamBytes, room: room,
+		answer: answers.New(token, nil), leave: leave, blocked: make(chan error), over: make(chan struct{})}
+	_, s.unwatch = u.Site.Watch(context.Background(), u.User, u.Tenant.Name(), access.Write, s.block)
+	if err := s.tellChanges(ctx); err != nil {
+		s.giveUp()
+		return nil, nil, err
+	}
+	return s, nil, nil
+}
+
+// blockWithin is how long a client that is blocked may be at work with an answer; then its connection is cut.
+const blockWithin = 500 * time.Millisecond
+
+// block lets whoever waits for the client know that the user or the tenant is blocked.
+func (s *stream) block(why error) {
+	select {
+	case s.blocked <- why:
+	case <-s.over:
+	case <-time.After(blockWithin):
+		s.Cut()
+	}
+}
+
+// feed feeds a piece in parts, and lets `take` take what each of them prints. It gives how the last part went that was fed: the first that was
+// refused. On an error, also of `take`, the stream was given up.
+func (s *stream) feed(ctx context.Context, piece []byte, take func(printed []byte) error) (answer frames.Answer, err error) {
+	for isFirst := true; isFirst || len(piece) > 0 && answer.Status == frames.Ok; isFirst = false {
+		part := piece[:partOf(piece)]
+		piece = piece[len(part):]
+		if err = s.mayTake(int64(len(part))); err == nil {
+			answer, err = s.feedInner(ctx, part)
+		}
+		if err == nil {
+			err = take(answer.Reply)
+		}
+		if err != nil {
+			s.giveUp()
+			return frames.Answer{}, err
+		}
+	}
+	return answer, nil
+}
+
+// partBytes is how much of a stream goes to the child at once: a part this small holds up nobody's question for long.
+const partBytes = 64 << 10
+
+// printing is how a line begins, after the one before, that prints the contents of an object. All other lines print little.
+var printing = []byte("\ncat-blob ")
+
+// partOf gives how long the first part of a piece is, which prints the contents of one object at most. So no answer has many times the memory that
+// its stream takes.
+func partOf(piece []byte) int {
+	if len(piece) > partBytes {
+		piece = piece[:partBytes]
+	}
+	if at := bytes.Index(piece, printing); at >= 0 {
+		return at + 1
+	}
+	return len(piece)
+}
+
+func (s *stream) feedInner(ctx context.Context, piece []byte) (frames.Answer, error) {
+	wait, err := s.inner.Feed(ctx, piece)
+	if err != nil {
+		return frames.Answer{}, err
+	}
+	answer, err := wait(ctx)
+	if s.answer.Token != "" && len(answer.Reply) > 0 {
+		s.answer = s.answer.With(answer.Reply)
+	}
+	return answer, err
+}
+
+// mayTake counts more bytes of the stream, and refuses those that go beyond a limit.
+func (s *stream) mayTake(more int64) error {
+	s.taken += more
+	switch {
+	case time.Now().After(s.until):
+		return limits.ErrStreamAge
+	case s.taken > s.most:
+		return limits.ErrStreamBytes
+	case s.taken > s.room:
+		return limits.ErrQuota
+	}
+	if err := s.Site.Access.Blocked(s.User, s.Tenant.Name(), access.Write); err != nil {
+		return err
+	}
+	return s.mayGoOn()
+}
+
+// end ends the stream, and gives the answer once the End is in the journal and synced. On an error the stream was given up.
+func (s *stream) end(ctx context.Context) (answer frames.Answer, err error) {
+	if s.answer.Token != "" {
+		s.inner.Keep(s.answer)
+	}
+	if err = s.mayTake(0); err == nil {
+		answer, err = s.inner.End(ctx)
+	}
+	if err != nil {
+		s.giveUp()
+		return frames.Answer{}, err
+	}
+	s.close()
+	return answer, nil
+}
+
+func (s *stream) close() {
+	s.isOver = true
+	close(s.over)
+	s.unwatch()
+	s.leave()
+}
+
+// giveUp drops what the stream did since its last checkpoint, if it has not ended.
+func (s *stream) giveUp() {
+	if !s.isOver {
+		s.inner.GiveUp()
+		s.close()
+	}
+}
+
+// changesWithin is how long the refs of a tenant are waited for after its stream.
+const changesWithin = time.Minute
+
+// tellChanges lets the log and the hooks be told, at the end of the stream, which refs it has changed.
+func (s *stream) tellChanges(ctx context.Context) error {
+	before, _, err := s.Tenant.Refs(ctx)
+	if err != nil {
+		return err
+	}
+	s.inner.AtEnd(func() {
+		soon, stop := context.WithTimeout(context.Background(), changesWithin)
+		defer stop()
+		after, _, err := s.Tenant.Refs(soon)
+		if err != nil {
+			s.Site.Log.Printf("which refs a stream of %s changed in %s is not known: %v", s.User, s.Tenant.Name(), err)
+			return
+		}
+		s.Site.Changed(s.Address, hooks.Push{Tenant: s.Tenant.Name(), User: s.User, Changes: changes(before, after)})
+	})
+	return nil
+}
+
+// changes gives what is different in two lists of refs, both in the order of their names.
+func changes(before, after []tenants.Ref) (all []hooks.Change) {
+	for len(before) > 0 || len(after) > 0 {
+		var it hooks.Change
+		none := tenants.Name{}.String()
+		switch {
+		case len(after) == 0 || len(before) > 0 && before[0].Name < after[0].Name:
+			it = hooks.Change{Ref: before[0].Name, Old: before[0].Target.String(), New: none}
+			before = before[1:]
+		case len(before) == 0 || after[0].Name < before[0].Name:
+			it = hooks.Change{Ref: after[0].Name, Old: none, New: after[0].Target.String()}
+			after = after[1:]
+		default:
+			it = hooks.Change{Ref: after[0].Name, Old: before[0].Target.String(), New: after[0].Target.String()}
+			before, after = before[1:], after[1:]
+		}
+		if it.Old != it.New {
+			all = append(all, it)
+		}
+	}
+	return all
+}
