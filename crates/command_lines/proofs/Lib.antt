@@ -1,5 +1,6 @@
 mod FilledRows
 mod FilledWalk
 mod NamedLines
+mod SaidLines
 mod UsageSteps
 mod WrittenLines

@@ -14,7 +14,7 @@ use Rattle.clap.specs.Simple.{Shape, built, built_leaf, entered, help_shape, inh
 use Rattle.clap.specs.Walk.{answers_to}
 use Rattle.clap.specs.Takes.{is_given}
 use Rattle.clap.specs.declared.error.kind.ErrorKind.{ErrorKind}
-use Rattle.command_lines.specs.Lines.{Said, ask, compact, copy, extract, import, is_set, merge, pack, remove, said_by, said_in}
+use Rattle.command_lines.specs.Lines.{Said, ask, check, compact, copy, extract, host, import, is_set, merge, pack, remove, said_by, said_in, serve, sizes}
 use Rattle.command_lines.specs.Usage.{ask_usage, check_usage, compact_usage, copy_usage, extract_usage, gitpool, host_usage, import_usage, merge_usage, pack_usage, remove_usage, serve_usage, sizes_usage}
 use Rattle.command_lines.proofs.FilledRows.{defaults_filled, filled, no_nil, or_else_nil, settled_filled, wants_value}
 use Rattle.command_lines.proofs.FilledWalk.{given_value, walk_filled}
@@ -132,12 +132,47 @@ wanted s rows has e =
     asked (not has && (s.arg_required_else_help && not (list_any (λ r. explicit_source r.source) rows))) (not has && s.subcommand_required)
     (not (s.subcommand_negates_reqs && has) && list_any (λ a. a.required && not (is_given a.id rows)) s.rules) e
 
-first_given : (given rest : Bool) → (not given || rest) ≡ false → (given ≡ true) × (rest ≡ false)
-first_given true rest e = (refl, e)
-first_given false rest e = absurd (true≢false e)
+-- A rule that has to be met and that nothing in the rows meets.
+abbrev is_missing : List Row → Rule → Bool
+is_missing rows a = a.required && not (is_given a.id rows)
+
+-- A rule of this name that has to be met.
+abbrev asks_for : Text → Rule → Bool
+asks_for id a = a.required && bytes_eq a.id id
+
+none_missing : (rules : List Rule) (rows : List Row) (id : Text) → list_any (is_missing rows) rules ≡ false → list_any (asks_for id) rules ≡ true
+    → is_given id rows ≡ true
+none_missing [] rows id none asks = absurd (true≢false (sym asks))
+none_missing (a ∷ rules) rows id none asks = by a.required (bytes_eq a.id id) refl (is_given a.id rows) refl none asks (none_missing rules rows id)
+  where
+    by : (required same : Bool) → bytes_eq a.id id ≡ same → (given : Bool) → is_given a.id rows ≡ given
+        → ((required && not given) || list_any (is_missing rows) rules) ≡ false → ((required && same) || list_any (asks_for id) rules) ≡ true
+        → (list_any (is_missing rows) rules ≡ false → list_any (asks_for id) rules ≡ true → is_given id rows ≡ true) → is_given id rows ≡ true
+    by true true is true given none asks later = subst (λ (t : Text). is_given t rows ≡ true) ((bytes_eq-Decides a.id id).0 is) given
+    by true true is false given none asks later = absurd (true≢false none)
+    by true false is true given none asks later = later none asks
+    by true false is false given none asks later = absurd (true≢false none)
+    by false same is given e none asks later = later none asks
+
+not_negated : (negates missing : Bool) → (not (negates && false) && missing) ≡ false → missing ≡ false
+not_negated true missing e = e
+not_negated false missing e = e
 
 abbrev leaf : Shape → Shape
 leaf s = built_leaf (inherited (with_leaf_noted (marked_built gitpool.top)) s)
+
+-- The value of an argument of a subcommand.
+abbrev value_in : Shape → List Text → Text → Option Text
+value_in s words id = first_of id (rows_after (leaf s).rules [] words)
+
+-- An argument that has to be there has a value.
+has_value : (s : Shape) → list_all wants_value (leaf s).rules ≡ true → (words : List Text) → level_fault (leaf s) [] nothing_held words false [] ≡ []
+    → (id : Text) → list_any (asks_for id) (leaf s).rules ≡ true → is_some (value_in s words id) ≡ true
+has_value s all words none id asks =
+    let rows = rows_after (leaf s).rules [] words in
+    let whole = leaf_filled (leaf s) words all none in
+    let wants = not_negated (leaf s).subcommand_negates_reqs (list_any (is_missing rows) (leaf s).rules) (wanted (leaf s) rows false whole.1).1 in
+    given_value id rows whole.0 (none_missing (leaf s).rules rows id wants asks)
 
 some_said : (f : Text → Said) (o : Option Text) → is_some o ≡ true → is_some (option_and_then (λ pool. Some (f pool)) o) ≡ true
 some_said f None e = absurd (true≢false (sym e))
@@ -160,110 +195,59 @@ abbrev Says : Shape → Type 0
 Says s = (words : List Text) → level_fault (leaf s) [] nothing_held words false [] ≡ [] → is_some (said_by (rows_at (leaf s) words)) ≡ true
 
 serve_says : Says serve_usage
-serve_says words none =
-    let all = leaf_filled (leaf serve_usage) words refl none in
-    let rows = rows_after (leaf serve_usage).rules [] words in
-    let pool = first_given (is_given (codes "pool") rows) false (wanted (leaf serve_usage) rows false all.1).1 in
-    some_said _ (first_of (codes "pool") rows) (given_value (codes "pool") rows all.0 pool.0)
+serve_says words none = some_said serve (value_in serve_usage words (codes "pool")) (has_value serve_usage refl words none (codes "pool") refl)
 
 check_says : Says check_usage
-check_says words none =
-    let all = leaf_filled (leaf check_usage) words refl none in
-    let rows = rows_after (leaf check_usage).rules [] words in
-    let pool = first_given (is_given (codes "pool") rows) false (wanted (leaf check_usage) rows false all.1).1 in
-    some_said _ (first_of (codes "pool") rows) (given_value (codes "pool") rows all.0 pool.0)
-
-import_says : Says import_usage
-import_says words none =
-    let all = leaf_filled (leaf import_usage) words refl none in
-    let rows = rows_after (leaf import_usage).rules [] words in
-    let tenant = first_given (is_given (codes "tenant") rows) (not (is_given (codes "pool") rows) || false) (wanted (leaf import_usage) rows false all.1).1 in
-    let pool = first_given (is_given (codes "pool") rows) false tenant.1 in
-    some_one import (first_of (codes "tenant") rows) (first_of (codes "pool") rows) (given_value (codes "tenant") rows all.0 tenant.0)
-    (given_value (codes "pool") rows all.0 pool.0)
-
-ask_says : Says ask_usage
-ask_says words none =
-    let all = leaf_filled (leaf ask_usage) words refl none in
-    let rows = rows_after (leaf ask_usage).rules [] words in
-    let tenant = first_given (is_given (codes "tenant") rows) (not (is_given (codes "query") rows) || (not (is_given (codes "pool") rows) || false))
-    (wanted (leaf ask_usage) rows false all.1).1 in
-    let query = first_given (is_given (codes "query") rows) (not (is_given (codes "pool") rows) || false) tenant.1 in
-    let pool = first_given (is_given (codes "pool") rows) false query.1 in
-    some_two ask (first_of (codes "tenant") rows) (first_of (codes "query") rows) (first_of (codes "pool") rows) (given_value (codes "tenant") rows all.0 tenant.0)
-    (given_value (codes "query") rows all.0 query.0) (given_value (codes "pool") rows all.0 pool.0)
-
-copy_says : Says copy_usage
-copy_says words none =
-    let all = leaf_filled (leaf copy_usage) words refl none in
-    let rows = rows_after (leaf copy_usage).rules [] words in
-    let from = first_given (is_given (codes "from") rows) (not (is_given (codes "to") rows) || (not (is_given (codes "pool") rows) || false))
-    (wanted (leaf copy_usage) rows false all.1).1 in
-    let to = first_given (is_given (codes "to") rows) (not (is_given (codes "pool") rows) || false) from.1 in
-    let pool = first_given (is_given (codes "pool") rows) false to.1 in
-    some_two copy (first_of (codes "from") rows) (first_of (codes "to") rows) (first_of (codes "pool") rows) (given_value (codes "from") rows all.0 from.0)
-    (given_value (codes "to") rows all.0 to.0) (given_value (codes "pool") rows all.0 pool.0)
+check_says words none = some_said check (value_in check_usage words (codes "pool")) (has_value check_usage refl words none (codes "pool") refl)
 
 sizes_says : Says sizes_usage
-sizes_says words none =
-    let all = leaf_filled (leaf sizes_usage) words refl none in
-    let rows = rows_after (leaf sizes_usage).rules [] words in
-    let pool = first_given (is_given (codes "pool") rows) false (wanted (leaf sizes_usage) rows false all.1).1 in
-    some_said _ (first_of (codes "pool") rows) (given_value (codes "pool") rows all.0 pool.0)
+sizes_says words none = some_said sizes (value_in sizes_usage words (codes "pool")) (has_value sizes_usage refl words none (codes "pool") refl)
 
 host_says : Says host_usage
-host_says words none =
-    let all = leaf_filled (leaf host_usage) words refl none in
-    let rows = rows_after (leaf host_usage).rules [] words in
-    let pool = first_given (is_given (codes "pool") rows) false (wanted (leaf host_usage) rows false all.1).1 in
-    some_said _ (first_of (codes "pool") rows) (given_value (codes "pool") rows all.0 pool.0)
+host_says words none = some_said host (value_in host_usage words (codes "pool")) (has_value host_usage refl words none (codes "pool") refl)
+
+-- A subcommand with one argument and the pool file.
+one_says : (s : Shape) (line : Text → Text → Said) (id : Text) → list_all wants_value (leaf s).rules ≡ true → list_any (asks_for id) (leaf s).rules ≡ true
+    → list_any (asks_for (codes "pool")) (leaf s).rules ≡ true → (words : List Text) → level_fault (leaf s) [] nothing_held words false [] ≡ []
+    → is_some (option_and_then (λ p. option_map (λ w. line w p) (value_in s words id)) (value_in s words (codes "pool"))) ≡ true
+one_says s line id all word pool words none =
+    some_one line (value_in s words id) (value_in s words (codes "pool")) (has_value s all words none id word) (has_value s all words none (codes "pool") pool)
+
+import_says : Says import_usage
+import_says words none = one_says import_usage import (codes "tenant") refl refl refl words none
 
 remove_says : Says remove_usage
-remove_says words none =
-    let all = leaf_filled (leaf remove_usage) words refl none in
-    let rows = rows_after (leaf remove_usage).rules [] words in
-    let tenant = first_given (is_given (codes "tenant") rows) (not (is_given (codes "pool") rows) || false) (wanted (leaf remove_usage) rows false all.1).1 in
-    let pool = first_given (is_given (codes "pool") rows) false tenant.1 in
-    some_one remove (first_of (codes "tenant") rows) (first_of (codes "pool") rows) (given_value (codes "tenant") rows all.0 tenant.0)
-    (given_value (codes "pool") rows all.0 pool.0)
+remove_says words none = one_says remove_usage remove (codes "tenant") refl refl refl words none
 
 compact_says : Says compact_usage
-compact_says words none =
-    let all = leaf_filled (leaf compact_usage) words refl none in
-    let rows = rows_after (leaf compact_usage).rules [] words in
-    let tenant = first_given (is_given (codes "tenant") rows) (not (is_given (codes "pool") rows) || false) (wanted (leaf compact_usage) rows false all.1).1 in
-    let pool = first_given (is_given (codes "pool") rows) false tenant.1 in
-    some_one compact (first_of (codes "tenant") rows) (first_of (codes "pool") rows) (given_value (codes "tenant") rows all.0 tenant.0)
-    (given_value (codes "pool") rows all.0 pool.0)
+compact_says words none = one_says compact_usage compact (codes "tenant") refl refl refl words none
 
 merge_says : Says merge_usage
-merge_says words none =
-    let all = leaf_filled (leaf merge_usage) words refl none in
-    let rows = rows_after (leaf merge_usage).rules [] words in
-    let file = first_given (is_given (codes "file") rows) (not (is_given (codes "pool") rows) || false) (wanted (leaf merge_usage) rows false all.1).1 in
-    let pool = first_given (is_given (codes "pool") rows) false file.1 in
-    some_one merge (first_of (codes "file") rows) (first_of (codes "pool") rows) (given_value (codes "file") rows all.0 file.0)
-    (given_value (codes "pool") rows all.0 pool.0)
-
-extract_says : Says extract_usage
-extract_says words none =
-    let all = leaf_filled (leaf extract_usage) words refl none in
-    let rows = rows_after (leaf extract_usage).rules [] words in
-    let tenant = first_given (is_given (codes "tenant") rows) (not (is_given (codes "pool") rows) || (not (is_given (codes "to") rows) || false))
-    (wanted (leaf extract_usage) rows false all.1).1 in
-    let pool = first_given (is_given (codes "pool") rows) (not (is_given (codes "to") rows) || false) tenant.1 in
-    let file = first_given (is_given (codes "to") rows) false pool.1 in
-    some_two extract (first_of (codes "tenant") rows) (first_of (codes "to") rows) (first_of (codes "pool") rows) (given_value (codes "tenant") rows all.0 tenant.0)
-    (given_value (codes "to") rows all.0 file.0) (given_value (codes "pool") rows all.0 pool.0)
+merge_says words none = one_says merge_usage merge (codes "file") refl refl refl words none
 
 pack_says : Says pack_usage
 pack_says words none =
-    let all = leaf_filled (leaf pack_usage) words refl none in
-    let rows = rows_after (leaf pack_usage).rules [] words in
-    let tenant = first_given (is_given (codes "tenant") rows) (not (is_given (codes "pool") rows) || false) (wanted (leaf pack_usage) rows false all.1).1 in
-    let pool = first_given (is_given (codes "pool") rows) false tenant.1 in
-    some_one (λ tenant pool. pack tenant (is_set rows (codes "all")) pool) (first_of (codes "tenant") rows) (first_of (codes "pool") rows)
-    (given_value (codes "tenant") rows all.0 tenant.0) (given_value (codes "pool") rows all.0 pool.0)
+    let all = is_set (rows_after (leaf pack_usage).rules [] words) (codes "all") in
+    one_says pack_usage (λ tenant pool. pack tenant all pool) (codes "tenant") refl refl refl words none
+
+-- A subcommand with two arguments and the pool file.
+two_says : (s : Shape) (line : Text → Text → Text → Said) (first second : Text) → list_all wants_value (leaf s).rules ≡ true
+    → list_any (asks_for first) (leaf s).rules ≡ true → list_any (asks_for second) (leaf s).rules ≡ true
+    → list_any (asks_for (codes "pool")) (leaf s).rules ≡ true → (words : List Text) → level_fault (leaf s) [] nothing_held words false [] ≡ []
+    → is_some (option_and_then (λ p. option_and_then (λ f. option_map (λ s. line f s p) (value_in s words second)) (value_in s words first))
+    (value_in s words (codes "pool"))) ≡ true
+two_says s line first second all one two pool words none =
+    some_two line (value_in s words first) (value_in s words second) (value_in s words (codes "pool")) (has_value s all words none first one)
+    (has_value s all words none second two) (has_value s all words none (codes "pool") pool)
+
+ask_says : Says ask_usage
+ask_says words none = two_says ask_usage ask (codes "tenant") (codes "query") refl refl refl refl words none
+
+copy_says : Says copy_usage
+copy_says words none = two_says copy_usage copy (codes "from") (codes "to") refl refl refl refl words none
+
+extract_says : Says extract_usage
+extract_says words none = two_says extract_usage extract (codes "tenant") (codes "to") refl refl refl refl words none
 
 -- ---- the whole command line
 

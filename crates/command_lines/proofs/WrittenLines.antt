@@ -6,37 +6,27 @@ use Rattle.clap.proofs.OnLiterals.{clap_on_literals}
 use Rattle.command_lines.specs.Lines.{AsksVersion, Said, ask, check, compact, copy, extract, host, import, merge, pack, remove, said_in, serve, sizes, words_of}
 use Rattle.command_lines.specs.Usage.{gitpool}
 
-pub written_taken : (line : Said) → takes gitpool (words_of line) ≡ true
+written : (line : Said) → (takes gitpool (words_of line) ≡ true) × (said_in (words_of line) ≡ Some line)
 unfolding clap_on_literals
-written_taken (serve pool) = refl
-written_taken (import tenant pool) = refl
-written_taken (ask tenant query pool) = refl
-written_taken (check pool) = refl
-written_taken (copy from to pool) = refl
-written_taken (remove tenant pool) = refl
-written_taken (compact tenant pool) = refl
-written_taken (sizes pool) = refl
-written_taken (extract tenant file pool) = refl
-written_taken (merge file pool) = refl
-written_taken (host pool) = refl
-written_taken (pack tenant false pool) = refl
-written_taken (pack tenant true pool) = refl
+written (serve pool) = (refl, refl)
+written (import tenant pool) = (refl, refl)
+written (ask tenant query pool) = (refl, refl)
+written (check pool) = (refl, refl)
+written (copy from to pool) = (refl, refl)
+written (remove tenant pool) = (refl, refl)
+written (compact tenant pool) = (refl, refl)
+written (sizes pool) = (refl, refl)
+written (extract tenant file pool) = (refl, refl)
+written (merge file pool) = (refl, refl)
+written (host pool) = (refl, refl)
+written (pack tenant false pool) = (refl, refl)
+written (pack tenant true pool) = (refl, refl)
+
+pub written_taken : (line : Said) → takes gitpool (words_of line) ≡ true
+written_taken line = (written line).0
 
 pub written_said : (line : Said) → said_in (words_of line) ≡ Some line
-unfolding clap_on_literals
-written_said (serve pool) = refl
-written_said (import tenant pool) = refl
-written_said (ask tenant query pool) = refl
-written_said (check pool) = refl
-written_said (copy from to pool) = refl
-written_said (remove tenant pool) = refl
-written_said (compact tenant pool) = refl
-written_said (sizes pool) = refl
-written_said (extract tenant file pool) = refl
-written_said (merge file pool) = refl
-written_said (host pool) = refl
-written_said (pack tenant false pool) = refl
-written_said (pack tenant true pool) = refl
+written_said line = (written line).1
 
 long_version : fault_of gitpool (codes "--version" ∷ []) ≡ DisplayVersion ∷ []
 unfolding clap_on_literals

@@ -28,3 +28,19 @@ pub fn is_refused_with(alloc: Global, text: &str, kind: ErrorKind, told: &str) -
         Err(_) => false,
     }
 }
+
+/// Whether the words of this text are refused with an error of this kind, whose text says what is
+/// wrong and shows this usage.
+pub fn is_refused_with_usage(
+    alloc: Global,
+    text: &str,
+    kind: ErrorKind,
+    wrong: &str,
+    usage: &str,
+) -> bool {
+    let more = "For more information, try '--help'.";
+    match format!(in alloc; "error: {wrong}\n\nUsage: gitpool {usage}\n\n{more}\n") {
+        Ok(told) => is_refused_with(alloc, text, kind, told.as_str()),
+        Err(_) => false,
+    }
+}

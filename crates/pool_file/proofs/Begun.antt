@@ -1,6 +1,6 @@
 -- A table that begins with the objects of the first numbers: what it has, and the sums of its trees.
 use Rattle.std.proofs.Common.{◌≡◌, ℕ, zero, suc, ◌+◌, ◌<◌, ◌≤◌, List, [], ◌∷◌, ◌++◌, length, take, drop, get_or, Some, refl, sym, ap, subst, ◌∙◌, append_assoc, arith}
-use Rattle.std.specs.Prelude.{All, slice_get}
+use Rattle.std.specs.Prelude.{slice_get}
 use Rattle.std.specs.List.{IsDistinct}
 use Rattle.std.specs.Str.{bytes_eq}
 use Rattle.std.proofs.lemmas.List.{map-append, take_all}
@@ -16,10 +16,10 @@ use Rattle.tenant_tables.proofs.HoldLemmas.{IsNamed, held-nil}
 use Rattle.tenant_tables.proofs.Joined.{take-one}
 use Rattle.pool_file_checks.specs.Own.{own_objects}
 use Rattle.pool_file_checks.specs.Sums.{Sums, TreesFit, sums_with}
-use Rattle.pool_file.specs.Building.{objects_at}
+use Rattle.pool_file.specs.Building.{objects_at, MayLoad}
 use Rattle.pool_file.specs.Tables.{BeginAlike, object_of}
 use Rattle.pool_file.proofs.Alike.{IsLike, like_none, like_on}
-use Rattle.pool_file.proofs.LoadedTables.{AreLoaded, MayLoad, any_default, own_left}
+use Rattle.pool_file.proofs.LoadedTables.{AreLoaded, any_default, own_left}
 
 -- The first entries are the first objects, and the trees that are left fit after their sums.
 record Begun (pool : Cells) (es : Entries) (own : List Object) (i : ℕ) : Type 0 where
@@ -46,9 +46,7 @@ unfolding objects
 no_objects p own = refl
 
 module _ (digest : List ℕ → List ℕ) (p0 p1 : Cells) (slots numbers : List ℕ) (es : Entries)
-    (may : MayLoad digest p0 slots numbers) (inside : All (λ n. n < length slots) numbers)
-    (trees : TreesFit [] (own_objects digest (objects_at p0 slots) numbers))
-    (stands : IsBackedBy digest p1 es) (others : PreservesOthers p0 [] p1 es)
+    (may : MayLoad digest p0 slots numbers) (stands : IsBackedBy digest p1 es) (others : PreservesOthers p0 [] p1 es)
     (distinct : IsDistinct bytes_eq (names es)) (alike : BeginAlike es slots numbers (length es)) where
   abbrev own : List Object
   own = own_objects digest (objects_at p0 slots) numbers
@@ -63,7 +61,7 @@ module _ (digest : List ℕ → List ℕ) (p0 p1 : Cells) (slots numbers : List 
       let n = get_or numbers i 0 in
       let few = alike.few in
       let l : i < length numbers = omega (arith, few, lt) in
-      let within : n < length slots = inside i 0 l in
+      let within : n < length slots = may.within i 0 l in
       let is : n ≡ get_or numbers i n = any_default numbers i 0 n l in
       let placed : slot ≡ get_or slots n slot =
       alike.alike i here.0 lt here.1 ∙ any_default slots n 0 slot within in
@@ -99,7 +97,7 @@ module _ (digest : List ℕ → List ℕ) (p0 p1 : Cells) (slots numbers : List 
   steps zero le = record {
     sums = [];
     like = like_none p1 es stands.summed;
-    fit = trees;
+    fit = may.trees;
     are = no_objects p1 own;
   }
   steps (suc k) le =

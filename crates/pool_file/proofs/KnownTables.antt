@@ -11,15 +11,15 @@ use Rattle.tenant_tables.specs.declared.summary.Summary.{Summary}
 use Rattle.tenant_tables.specs.View.{View, Entries}
 use Rattle.tenant_tables.specs.Adding.{Adds}
 use Rattle.tenant_tables.specs.IsBackedBy.{IsBackedBy, PreservesOthers}
-use Rattle.tenant_tables.specs.Trees.{SummedAfter}
+use Rattle.tenant_tables.specs.Trees.{SummedAfter, no_files}
 use Rattle.pool_file_checks.specs.Own.{own_objects}
 use Rattle.pool_file_checks.specs.Quick.{AreSums}
 use Rattle.pool_file_checks.specs.Sums.{Sums, sum_of_tree}
 use Rattle.pool_file_checks.proofs.SumLemmas.{own_sum}
 use Rattle.pool_file_checks.proofs.TenantLemmas.{left_at}
-use Rattle.pool_file.specs.Building.{objects_at}
+use Rattle.pool_file.specs.Building.{objects_at, MayLoad}
 use Rattle.pool_file.specs.Tables.{CanAdd, Loads, known_sum, object_of, sums_on}
-use Rattle.pool_file.proofs.LoadedTables.{AreLoaded, MayLoad, own_left, summed_own, loaded_own, same, may_load, loaded_on}
+use Rattle.pool_file.proofs.LoadedTables.{AreLoaded, any_default, left_here, summed_own, loaded_own, same, may_load, loaded_on}
 
 -- ---- one object
 
@@ -53,8 +53,11 @@ pub record AreKnownSoFar (digest : List ℕ → List ℕ) (before pool : Cells) 
   pub sums : AreSums noted kept rest
 
 module _ (digest : List ℕ → List ℕ) (p0 p : Cells) (slots numbers : List ℕ) (entries : Entries) (kept : List Summary)
-    (may : MayLoad digest p0 slots numbers) (i n slot : ℕ) (sum : Summary) (l : i < length numbers) (is : n ≡ get_or numbers i n)
-    (within : n < length slots) (at : slot ≡ get_or slots n slot) (short : i < length kept) (here : sum ≡ get_or kept i sum) where
+    (may : MayLoad digest p0 slots numbers) (i slot : ℕ) (l : i < length numbers) (at : slot ≡ get_or slots (get_or numbers i 0) slot)
+    (short : i < length kept) where
+  abbrev sum : Summary
+  sum = get_or kept i no_files
+
   abbrev own : List Object
   own = own_objects digest (objects_at p0 slots) numbers
 
@@ -64,16 +67,16 @@ module _ (digest : List ℕ → List ℕ) (p0 p : Cells) (slots numbers : List �
   module _ (h : AreKnownSoFar digest p0 p entries (drop i kept) (drop i own) own) where
     both : AreSums h.noted (sum ∷ drop (i + 1) kept) (o ∷ drop (i + 1) own)
     both =
-        subst (λ (ks : List Summary). AreSums h.noted ks (o ∷ drop (i + 1) own)) (left_at kept i sum short here)
-        (subst (λ (os : List Object). AreSums h.noted (drop i kept) os) (own_left digest p0 slots numbers i n slot l is within at) h.sums)
+        subst (λ (ks : List Summary). AreSums h.noted ks (o ∷ drop (i + 1) own)) (left_at kept i sum short (any_default kept i no_files sum short))
+        (subst (λ (os : List Object). AreSums h.noted (drop i kept) os) (left_here digest p0 p slots numbers entries h.noted may i slot l at) h.sums)
 
     here_same : content p slot ≡ content p0 slot
-    here_same = same digest p0 p slots numbers entries h.noted may i n slot l is within at h.loaded
+    here_same = same digest p0 p slots numbers entries h.noted may i slot l at h.loaded
 
     pub can_add : CanAdd digest p entries slot sum
     can_add = record {
       noted = h.noted;
-      can = may_load digest p0 p slots numbers entries h.noted may i n slot l is within at h.loaded;
+      can = may_load digest p0 p slots numbers entries h.noted may i slot l at h.loaded;
       sum_is = subst (λ (c : Content). c.kind ≡ kind.Tree → sum ≡ sum_of_tree h.noted (tree_read c.bytes)) (sym here_same) both.0;
     }
 
@@ -83,6 +86,6 @@ module _ (digest : List ℕ → List ℕ) (p0 p : Cells) (slots numbers : List �
     unfolding can_add
     known_on q new loads = record {
       noted = sums_on digest (content p slot) h.noted;
-      loaded = loaded_on digest p0 p slots numbers entries h.noted may i n slot l is within at h.loaded q new (sums_on digest (content p slot) h.noted) (loads can_add);
+      loaded = loaded_on digest p0 p slots numbers entries h.noted may i slot l at h.loaded q new (sums_on digest (content p slot) h.noted) (loads can_add);
       sums = subst (λ (c : Content). AreSums (sums_on digest c h.noted) (drop (i + 1) kept) (drop (i + 1) own)) (sym here_same) both.1;
     }

@@ -11,7 +11,6 @@ use Rattle.std.proofs.lemmas.Slice.Eq.{bytes_eq-Decides}
 use Rattle.git_model.specs.declared.kind.Kind.{Kind}
 use Rattle.git_model.specs.declared.kind.Kind.TheVariants as kind
 use Rattle.git_model.specs.Content.{Content, name_by}
-use Rattle.git_model.specs.GoodRepository.{objects_limit}
 use Rattle.git_model.specs.Repository.{Object, object_named}
 use Rattle.git_model.specs.TreeReading.{tree_read}
 use Rattle.content_pool.specs.Pool.{Cells, content, IsLive}
@@ -27,20 +26,21 @@ use Rattle.tenant_tables.specs.Trees.{SummedAfter}
 use Rattle.tenant_tables.proofs.HoldLemmas.{held-nil, object_named-objects}
 use Rattle.tenant_tables.proofs.RoomLemmas.{has_room, room-after}
 use Rattle.tenant_tables.proofs.TableLemmas.{IsBackedBy-nil, PreservesOthers-refl, PreservesOthers-then, length-objects}
-use Rattle.pool_file_format.specs.Format.{RawObject}
+use Rattle.pool_file_format.specs.Format.{RawObject, RawTenant}
 use Rattle.pool_file_checks.specs.Checks.{Passes}
 use Rattle.pool_file_checks.specs.Objects.{raw_object, object_checks, CanStore}
-use Rattle.pool_file_checks.specs.Own.{content_of, content_at, names_of, row, rows_of, objects_in, own_objects, AreDistinct}
+use Rattle.pool_file_checks.specs.Own.{content_of, content_at, names_of, row, rows_of, objects_in, own_objects}
 use Rattle.pool_file_checks.specs.Sums.{Sums, SameSums, Fits, TreesFit, sum_of_tree, sums_with}
 use Rattle.pool_file_checks.proofs.SumLemmas.{same_trees, own_sum, summed_after, none_noted}
 use Rattle.pool_file_checks.proofs.TenantLemmas.{left_at}
 use Rattle.pool_file_checks.proofs.Members.{has_at}
-use Rattle.pool_file_checks.proofs.Passing.{can_store}
+use Rattle.pool_file_checks.proofs.Passing.{can_store, holds}
 use Rattle.pool_file_checks.proofs.Keys.{content_again}
 use Rattle.pool_file_checks.proofs.OwnObjects.{ids, own_distinct, own_length}
 use Rattle.pool_file_checks.proofs.RawTenants.{name_of_number}
-use Rattle.pool_file.specs.Building.{objects_at}
+use Rattle.pool_file.specs.Building.{objects_at, IsChecked, LoadsAll, MayLoad}
 use Rattle.pool_file.specs.Tables.{AreNoted, object_of, CanLoad, Loads, sums_on}
+use Rattle.pool_file.proofs.Slots.{numbers_in}
 
 -- ---- the object of a number
 
@@ -216,7 +216,7 @@ module _ (digest : List ℕ → List ℕ) (p : Cells) (old : View) (sums : Sums)
   loaded_own (Err e) q new stands others adds = tt
 
 -- each number has a name
-pub names_reach : (digest : List ℕ → List ℕ) (pool : Cells) (slots : List ℕ) (n : ℕ) → n < length slots
+names_reach : (digest : List ℕ → List ℕ) (pool : Cells) (slots : List ℕ) (n : ℕ) → n < length slots
     → (names : List (List ℕ)) → names ≡ names_of digest (objects_at pool slots) → n < length names
 unfolding objects_at
 names_reach digest pool slots n within names named =
@@ -224,6 +224,11 @@ names_reach digest pool slots n within names named =
     let b = length-map (objects_at pool slots) (λ x. name_by digest (content_of x)) in
     let d = length-map slots (λ s. raw_object (content pool s)) in
     omega (arith, a, b, d, within)
+
+-- the name of the object at a place is there
+pub names_at : (digest : List ℕ → List ℕ) (pool : Cells) (slots numbers : List ℕ) (names : List (List ℕ)) (i : ℕ) → MayLoad digest pool slots numbers
+    → names ≡ names_of digest (objects_at pool slots) → i < length numbers → get_or numbers i 0 < length names
+names_at digest pool slots numbers names i may named l = names_reach digest pool slots (get_or numbers i 0) (may.within i 0 l) names named
 
 -- ---- one object after another
 
@@ -247,29 +252,29 @@ loaded_none digest p whole fit = record {
   noted = none_noted;
 }
 
--- What the numbers of a tenant and the slots of a file must be.
-pub record MayLoad (digest : List ℕ → List ℕ) (pool : Cells) (slots numbers : List ℕ) : Type 0 where
-  pub live : All (IsLive pool) slots
-  pub room : HasHoldsLeftBeside pool []
-  pub contents : Passes (object_checks None (objects_at pool slots))
-  pub few : length numbers ≤ objects_limit
-  pub distinct : AreDistinct (rows_of (names_of digest (objects_at pool slots)) numbers)
-
 module _ (digest : List ℕ → List ℕ) (p0 p : Cells) (slots numbers : List ℕ) (entries : Entries) (sums : Sums)
-    (may : MayLoad digest p0 slots numbers) (i n slot : ℕ) (l : i < length numbers) (is : n ≡ get_or numbers i n)
-    (within : n < length slots) (at : slot ≡ get_or slots n slot) where
+    (may : MayLoad digest p0 slots numbers) (i slot : ℕ) (l : i < length numbers) (at : slot ≡ get_or slots (get_or numbers i 0) slot) where
+  abbrev n : ℕ
+  n = get_or numbers i 0
+
+  inside : n < length slots
+  inside = may.within i 0 l
+
   abbrev own : List Object
   own = own_objects digest (objects_at p0 slots) numbers
 
   abbrev o : Object
   o = object_of digest (content p0 slot)
 
+  pub left_here : drop i own ≡ o ∷ drop (i + 1) own
+  left_here = own_left digest p0 slots numbers i n slot l (any_default numbers i 0 n l) inside at
+
   module _ (h : AreLoaded digest p0 p entries sums (drop i own) own) where
     first : AreLoaded digest p0 p entries sums (o ∷ drop (i + 1) own) own
-    first = subst (λ (rest : List Object). AreLoaded digest p0 p entries sums rest own) (own_left digest p0 slots numbers i n slot l is within at) h
+    first = subst (λ (rest : List Object). AreLoaded digest p0 p entries sums rest own) left_here h
 
     live_before : IsLive p0 slot
-    live_before = subst (IsLive p0) (sym at) (may.live n slot within)
+    live_before = subst (IsLive p0) (sym at) (may.live n slot inside)
 
     pub same : content p slot ≡ content p0 slot
     same = h.others.kept slot (let a = live_before in let b = held-nil slot in omega arith)
@@ -283,9 +288,9 @@ module _ (digest : List ℕ → List ℕ) (p0 p : Cells) (slots numbers : List �
     pub named_here : (names : List (List ℕ)) (name : List ℕ) → names ≡ names_of digest (objects_at p0 slots)
         → name ≡ get_or names n name → name ≡ name_by digest (content p slot)
     named_here names name named is_name =
-        is_name ∙ any_default names n name [] (names_reach digest p0 slots n within names named)
+        is_name ∙ any_default names n name [] (names_reach digest p0 slots n inside names named)
         ∙ ap (λ (l : List (List ℕ)). slice_index_or l n []) named
-        ∙ ap (λ (x : Object). x.id) (object_is p0 slots n slot within at digest)
+        ∙ ap (λ (x : Object). x.id) (object_is p0 slots n slot inside at digest)
         ∙ ap (name_by digest) (sym same)
 
     pub may_load : CanLoad digest p entries sums slot
@@ -300,7 +305,7 @@ module _ (digest : List ℕ → List ℕ) (p0 p : Cells) (slots numbers : List �
           let all = sym (length-append (objects p entries) (o ∷ drop (i + 1) own)) ∙ ap (λ (os : List Object). length os) first.objects in
           let mine = length-objects p entries in
           omega arith;
-      short = subst (λ (c : Content). length c.bytes ≤ CONTENTS_LIMIT) (sym same) (is_short p0 slots n slot within at may.contents);
+      short = subst (λ (c : Content). length c.bytes ≤ CONTENTS_LIMIT) (sym same) (is_short p0 slots n slot inside at may.contents);
       noted = h.noted;
       fits = subst (λ (c : Content). Fits c.kind c.bytes sums) (sym same) first.trees.0;
     }
@@ -320,7 +325,35 @@ module _ (digest : List ℕ → List ℕ) (p0 p : Cells) (slots numbers : List �
       noted = loads.noted;
     }
 
-pub loaded_all : (digest : List ℕ → List ℕ) (p0 p : Cells) (entries : Entries) (sums : Sums) (whole : List Object) (i : ℕ)
+loaded_all : (digest : List ℕ → List ℕ) (p0 p : Cells) (entries : Entries) (sums : Sums) (whole : List Object) (i : ℕ)
     → length whole ≤ i → AreLoaded digest p0 p entries sums (drop i whole) whole → objects p entries ≡ whole
 loaded_all digest p0 p entries sums whole i past h =
     sym (append-nil (objects p entries)) ∙ ap (λ (rest : List Object). objects p entries ++ rest) (sym (drop_all i whole past)) ∙ h.objects
+
+pub all_loaded : (digest : List ℕ → List ℕ) (p0 p : Cells) (slots numbers : List ℕ) (table : View) (sums : Sums) (i : ℕ) → length numbers ≤ i
+    → AreLoaded digest p0 p table.entries sums (drop i (own_objects digest (objects_at p0 slots) numbers)) (own_objects digest (objects_at p0 slots) numbers)
+    → LoadsAll digest slots numbers p0 p (record table { committed = length table.entries })
+all_loaded digest p0 p slots numbers table sums i past h =
+    let own = own_objects digest (objects_at p0 slots) numbers in
+    let size = own_length digest (objects_at p0 slots) numbers in
+    record {
+      stands = h.stands;
+      others = h.others;
+      objects = loaded_all digest p0 p table.entries sums own i (omega (arith, past, size)) h;
+      committed = refl;
+    }
+
+-- the table of a tenant that passed its checks can be loaded
+pub may_load_own : (digest : List ℕ → List ℕ) (pool : Cells) (slots : List ℕ) (t : RawTenant) → All (IsLive pool) slots → HasHoldsLeftBeside pool []
+    → IsChecked digest (objects_at pool slots) t → MayLoad digest pool slots t.numbers
+may_load_own digest pool slots t live room checked =
+    let h = holds digest checked.version (objects_at pool slots) checked.last t checked.passes in
+    record {
+      live = live;
+      room = room;
+      contents = checked.objects;
+      within = numbers_in pool slots t.numbers h.numbers;
+      few = h.few;
+      distinct = h.distinct;
+      trees = h.trees;
+    }

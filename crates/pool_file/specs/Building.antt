@@ -1,12 +1,18 @@
 -- The contents of a file in a pool, and the tenants over it, while they are built.
-use Rattle.std.specs.Prelude.{◌≡◌, ℕ, ◌+◌, ◌≤◌, ◌==◌, true, List, [], ◌++◌, map, length, count_by, slice_get, Option, None, Some}
+use Rattle.std.specs.Prelude.{◌≡◌, ℕ, ◌+◌, ◌<◌, ◌≤◌, ◌==◌, true, All, List, [], ◌++◌, map, length, count_by, slice_get, Option, None, Some}
 use Rattle.std.specs.List.{AllByRecursion}
-use Rattle.content_pool.specs.Pool.{Cells, holds, content}
+use Rattle.git_model.specs.Limits.{objects_limit}
+use Rattle.content_pool.specs.Pool.{Cells, IsLive, holds, content}
 use Rattle.tenant_refs.specs.TenantName.{is_tenant_name}
+use Rattle.tenant_tables.specs.View.{View}
+use Rattle.tenant_tables.specs.Objects.{objects}
+use Rattle.tenant_tables.specs.Room.{HasHoldsLeftBeside}
 use Rattle.tenant_tables.specs.IsBackedBy.{IsBackedBy, PreservesOthers}
 use Rattle.pool_file_format.specs.Format.{RawObject, RawTenant}
 use Rattle.pool_file_checks.specs.Checks.{Passes}
 use Rattle.pool_file_checks.specs.Objects.{raw_object, object_checks}
+use Rattle.pool_file_checks.specs.Own.{own_objects, names_of, rows_of, AreDistinct}
+use Rattle.pool_file_checks.specs.Sums.{TreesFit}
 use Rattle.pool_file_checks.specs.Whole.{one_tenant_checks}
 use Rattle.pool_file_checks.specs.Saved.{named_at}
 use Rattle.pool_file.specs.declared.relatives.Shared.{Shared}
@@ -17,6 +23,25 @@ use Rattle.pool_file.specs.Tables.{BeginAlike}
 -- The objects of a file whose contents lie in these slots, in the order of the slots.
 unfoldable pub objects_at : Cells → List ℕ → List RawObject
 objects_at pool slots = map (λ s. raw_object (content pool s)) slots
+
+-- What the numbers of a tenant and the slots of a file must be, so that its table can be loaded.
+pub record MayLoad (digest : List ℕ → List ℕ) (pool : Cells) (slots numbers : List ℕ) : Type 0 where
+  pub live : All (IsLive pool) slots
+  pub room : HasHoldsLeftBeside pool []
+  pub contents : Passes (object_checks None (objects_at pool slots))
+  pub within : All (λ n. n < length slots) numbers
+  pub few : length numbers ≤ objects_limit
+  pub distinct : AreDistinct (rows_of (names_of digest (objects_at pool slots)) numbers)
+  pub trees : TreesFit [] (own_objects digest (objects_at pool slots) numbers)
+
+-- A table has the objects with these numbers, all committed, and its holds are all that the pool
+-- has more.
+pub record LoadsAll (digest : List ℕ → List ℕ) (slots numbers : List ℕ) (before after : Cells)
+    (table : View) : Type 0 where
+  pub stands : IsBackedBy digest after table.entries
+  pub others : PreservesOthers before [] after table.entries
+  pub objects : objects after table.entries ≡ own_objects digest (objects_at before slots) numbers
+  pub committed : table.committed ≡ length table.entries
 
 -- How often a slot occurs in a list.
 unfoldable pub times_in : List ℕ → ℕ → ℕ

@@ -1,20 +1,16 @@
 //! The table of a tenant, from the numbers of its objects in the file.
 
-ghost use Rattle.std.specs.Prelude.{◌≡◌, ◌<◌, ◌≤◌, ℕ, List, [], length, All, IfOk, OnOk, None, Some, slice_get};
+ghost use Rattle.std.specs.Prelude.{◌≡◌, ◌<◌, ◌≤◌, ℕ, List, [], length, All, IfOk, OnOk, Some, slice_get};
 ghost use Rattle.std.specs.Bool.{OnTrue};
 ghost use Rattle.std.specs.Option.{option_map};
-ghost use Rattle.content_pool.specs.Pool.{IsLive, content};
+ghost use Rattle.content_pool.specs.Pool.{content};
 ghost use Rattle.git_model.specs.Content.{name_by};
-ghost use Rattle.git_model.specs.GoodRepository.{objects_limit};
-ghost use Rattle.tenant_tables.specs.Objects.{objects};
 ghost use Rattle.tenant_tables.specs.Room.{HasHoldsLeftBeside};
-ghost use Rattle.tenant_tables.specs.IsBackedBy.{IsBackedBy, PreservesOthers};
-ghost use Rattle.pool_file_checks.specs.Checks.{Passes};
-ghost use Rattle.pool_file_checks.specs.Objects.{object_checks};
-ghost use Rattle.pool_file_checks.specs.Own.{own_objects, names_of, rows_of, AreDistinct};
+ghost use Rattle.tenant_tables.specs.IsBackedBy.{IsBackedBy};
+ghost use Rattle.pool_file_checks.specs.Own.{own_objects, names_of};
 ghost use Rattle.pool_file_checks.specs.Quick.{AreSums, KnowsSums};
-ghost use Rattle.pool_file_checks.specs.Sums.{Sums, TreesFit};
-ghost use Rattle.pool_file.specs.Building.{objects_at};
+ghost use Rattle.pool_file_checks.specs.Sums.{Sums};
+ghost use Rattle.pool_file.specs.Building.{objects_at, LoadsAll, MayLoad};
 ghost use Rattle.pool_file.specs.Tables.{BeginAlike, CanAdd, CanLoad, Loads, Starts, known_sum, sums_on};
 
 use crate::summing::summary_after;
@@ -132,24 +128,13 @@ fn known_table<N: Naming>(
     numbers: &[u64],
     sums: &[Summary],
 ) -> Result<Table, Memory>
-    requires live { All (IsLive pool.old) slots.now }
-    requires room { HasHoldsLeftBeside pool.old [] }
+    requires may { MayLoad N.digest_of pool.old slots.now numbers.now }
     requires named { names.now ≡ names_of N.digest_of (objects_at pool.old slots.now) }
-    requires contents { Passes (object_checks None (objects_at pool.old slots.now)) }
-    requires numbers { All (λ n. n < length slots.now) numbers.now }
-    requires few { length numbers.now ≤ objects_limit }
-    requires distinct { AreDistinct
-        (rows_of (names_of N.digest_of (objects_at pool.old slots.now)) numbers.now) }
-    requires trees { TreesFit []
-        (own_objects N.digest_of (objects_at pool.old slots.now) numbers.now) }
     requires size { length sums.now ≡ length numbers.now }
     requires known { AreSums [] sums.now
         (own_objects N.digest_of (objects_at pool.old slots.now) numbers.now) }
-    ensures stands { IfOk result (λ table. IsBackedBy N.digest_of pool.new table.entries) }
-    ensures others { IfOk result (λ table. PreservesOthers pool.old [] pool.new table.entries) }
-    ensures objects { IfOk result (λ table. objects pool.new table.entries
-        ≡ own_objects N.digest_of (objects_at pool.old slots.now) numbers.now) }
-    ensures committed { IfOk result (λ table. table.committed ≡ length table.entries) }
+    ensures { IfOk result
+        (λ table. LoadsAll N.digest_of slots.now numbers.now pool.old pool.new table) }
 {
     let mut made = Table::with_capacity(alloc, numbers.len())?;
     for position in 0..numbers.len() {
@@ -189,24 +174,13 @@ pub fn load_table<N: Naming>(
     other: &mut Table,
     count: usize,
 ) -> Result<Table, Memory>
-    requires live { All (IsLive pool.old) slots.now }
-    requires room { HasHoldsLeftBeside pool.old [] }
+    requires may { MayLoad N.digest_of pool.old slots.now numbers.now }
     requires named { names.now ≡ names_of N.digest_of (objects_at pool.old slots.now) }
-    requires contents { Passes (object_checks None (objects_at pool.old slots.now)) }
-    requires numbers { All (λ n. n < length slots.now) numbers.now }
-    requires few { length numbers.now ≤ objects_limit }
-    requires distinct { AreDistinct
-        (rows_of (names_of N.digest_of (objects_at pool.old slots.now)) numbers.now) }
-    requires trees { TreesFit []
-        (own_objects N.digest_of (objects_at pool.old slots.now) numbers.now) }
     requires known { KnowsSums N.digest_of (objects_at pool.old slots.now) known.now }
     requires other { IsBackedBy N.digest_of pool.old other.old.entries }
     requires alike { BeginAlike other.old.entries slots.now numbers.now count }
-    ensures stands { IfOk result (λ table. IsBackedBy N.digest_of pool.new table.entries) }
-    ensures others { IfOk result (λ table. PreservesOthers pool.old [] pool.new table.entries) }
-    ensures objects { IfOk result (λ table. objects pool.new table.entries
-        ≡ own_objects N.digest_of (objects_at pool.old slots.now) numbers.now) }
-    ensures committed { IfOk result (λ table. table.committed ≡ length table.entries) }
+    ensures loads { IfOk result
+        (λ table. LoadsAll N.digest_of slots.now numbers.now pool.old pool.new table) }
     ensures same { other.new ≡ other.old }
 {
     if count == 0 && are_known(known, numbers) {

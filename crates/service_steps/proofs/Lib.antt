@@ -1,5 +1,6 @@
 pub use Rattle.byte_devices.proofs.ReadLemmas
 pub mod SizedLemmas
+mod FrameParts
 pub mod FrameLemmas
 pub mod RequestLemmas
 pub mod PackRequests

@@ -1,7 +1,7 @@
 -- No act comes where its command is not open.
-use Rattle.std.proofs.Common.{◌≡◌, ◌≢◌, ℕ, Bool, true, false, ◌&&◌, ◌||◌, not, List, [], ◌∷◌, Option, Some, None, Result, Ok, Err, refl, sym, subst, ◌∙◌}
+use Rattle.std.proofs.Common.{◌≡◌, ◌≢◌, ℕ, Bool, cond, true, false, ◌&&◌, ◌||◌, not, List, [], ◌∷◌, Option, Some, None, Result, Ok, Err, refl, sym, ap, subst, ◌∙◌}
 use Rattle.std.specs.Prelude.{IfOk}
-use Rattle.std.proofs.lemmas.Bool.{cond-true, false≢true}
+use Rattle.std.proofs.lemmas.Bool.{false≢true}
 use Rattle.git_model.specs.Repository.{Repository, object_named}
 use Rattle.stream_lex.specs.Items.{Item, Line, Data, Blank}
 use Rattle.stream_grammar.specs.declared.fault.Fault.{Fault as TextFault}
@@ -66,8 +66,10 @@ use Rattle.import_session.specs.Changes.{file_stored, files_changed}
 use Rattle.stream_commands.specs.Refs.{branch_unborn, ref_set}
 use Rattle.stream_commands.specs.Replies.{replied}
 use Rattle.import_session.specs.Meaning.{after_act}
-use Rattle.import_session.specs.Stream.{Running, Step, begun, is_finish, step, taken as taken_by}
-use Rattle.import_session.proofs.ItemLemmas.{step_running}
+use Rattle.import_session.specs.Stream.{Running, Step, begun, is_finish, step}
+use Rattle.import_session.proofs.ItemLemmas.{done_step, stepped}
+use Rattle.import_session.proofs.SoundCommits.{then_any, then_good}
+use Rattle.session_laws.proofs.StepLemmas.{step_leaves}
 use Rattle.session_laws.specs.Fitting.{Fits, HasCommitter, HasTarget, IsAtStage, IsChanging, IsCommit, IsCommitBefore, IsInStep, IsInline, IsOpenAt, IsReset, IsTag, IsTagBefore}
 
 -- ---- the stage after a part
@@ -138,152 +140,46 @@ record Moves (taken : Part) (at : Stage) (left : List Term) : Type 0 where
   terms : left ≡ terms_of (next taken at)
   kind : opened_after taken (opened_of at) ≡ opened_of (next taken at)
 
-left_is : (terms left : List Term) → Stands terms ≡ Stands left → left ≡ terms
-left_is terms left is = cc
+-- the same if the part stands, as tests that a table can compute
+abbrev stands : Fit → Bool
+stands (Stands left) = true
+stands _ = false
 
-ends_not : {P : Type 0} (left : List Term) → Ends ≡ Stands left → P
-ends_not left is = absurd (cc is)
+abbrev left_or : List Term → Fit → List Term
+left_or other (Stands left) = left
+left_or other _ = other
 
-misses_not : {P : Type 0} (left : List Term) → Misses ≡ Stands left → P
-misses_not left is = absurd (cc is)
+abbrev MovesIf : Part → Stage → Fit → Type 0
+MovesIf taken at place =
+    (stands place && not (belongs (opened_of at) taken) ≡ false)
+    × (left_or (terms_of (next taken at)) place ≡ terms_of (next taken at))
+    × (cond (stands place) (opened_after taken (opened_of at)) (opened_of (next taken at))
+    ≡ opened_of (next taken at))
+
+-- the lines before the last split the stages and the parts; the last stands for what is left
+moves_if : (at : Stage) (taken : Part) → MovesIf taken at (fit taken (terms_of at))
+moves_if (stage.Blob blob.Mark) part.Blank = (refl, refl, refl)
+moves_if (stage.Commit commit.Mark) part.Blank = (refl, refl, refl)
+moves_if (stage.Changes change.From) part.Blank = (refl, refl, refl)
+moves_if (stage.Tag tag.Mark) part.Blank = (refl, refl, refl)
+moves_if (stage.Reset reset.From) part.Blank = (refl, refl, refl)
+moves_if (stage.Alias alias.Mark) part.Blank = (refl, refl, refl)
+moves_if _ (part.Header header_line.Mark) = (refl, refl, refl)
+moves_if _ (part.CommitIsh commit_ish_line.From) = (refl, refl, refl)
+moves_if _ (part.Change change_line.Modify) = (refl, refl, refl)
+moves_if _ (part.Reply reply_line.CatBlob) = (refl, refl, refl)
+moves_if _ _ = (refl, refl, refl)
 
 moves : (at : Stage) (taken : Part) (left : List Term) → fit taken (terms_of at) ≡ Stands left
     → Moves taken at left
-moves stage.Top _ left is = ends_not left is
-moves (stage.Blob blob.Mark) (part.Header header_line.Mark) left is = record { own = refl; terms = left_is _ left is; kind = refl }
-moves (stage.Blob blob.Mark) (part.Header header_line.OriginalOid) left is = record { own = refl; terms = left_is _ left is; kind = refl }
-moves (stage.Blob blob.Mark) part.Data left is = record { own = refl; terms = left_is _ left is; kind = refl }
-moves (stage.Blob blob.Mark) _ left is = misses_not left is
-moves (stage.Blob blob.OriginalOid) (part.Header header_line.OriginalOid) left is =
-    record { own = refl; terms = left_is _ left is; kind = refl }
-moves (stage.Blob blob.OriginalOid) part.Data left is =
-    record { own = refl; terms = left_is _ left is; kind = refl }
-moves (stage.Blob blob.OriginalOid) _ left is = misses_not left is
-moves (stage.Blob blob.Data) part.Data left is = record { own = refl; terms = left_is _ left is; kind = refl }
-moves (stage.Blob blob.Data) _ left is = misses_not left is
-moves (stage.Commit commit.Mark) (part.Header header_line.Mark) left is =
-    record { own = refl; terms = left_is _ left is; kind = refl }
-moves (stage.Commit commit.Mark) (part.Header header_line.OriginalOid) left is =
-    record { own = refl; terms = left_is _ left is; kind = refl }
-moves (stage.Commit commit.Mark) (part.Header header_line.Author) left is =
-    record { own = refl; terms = left_is _ left is; kind = refl }
-moves (stage.Commit commit.Mark) (part.Header header_line.Committer) left is =
-    record { own = refl; terms = left_is _ left is; kind = refl }
-moves (stage.Commit commit.Mark) _ left is = misses_not left is
-moves (stage.Commit commit.OriginalOid) (part.Header header_line.OriginalOid) left is =
-    record { own = refl; terms = left_is _ left is; kind = refl }
-moves (stage.Commit commit.OriginalOid) (part.Header header_line.Author) left is =
-    record { own = refl; terms = left_is _ left is; kind = refl }
-moves (stage.Commit commit.OriginalOid) (part.Header header_line.Committer) left is =
-    record { own = refl; terms = left_is _ left is; kind = refl }
-moves (stage.Commit commit.OriginalOid) _ left is = misses_not left is
-moves (stage.Commit commit.Author) (part.Header header_line.Author) left is =
-    record { own = refl; terms = left_is _ left is; kind = refl }
-moves (stage.Commit commit.Author) (part.Header header_line.Committer) left is =
-    record { own = refl; terms = left_is _ left is; kind = refl }
-moves (stage.Commit commit.Author) _ left is = misses_not left is
-moves (stage.Commit commit.Committer) (part.Header header_line.Committer) left is =
-    record { own = refl; terms = left_is _ left is; kind = refl }
-moves (stage.Commit commit.Committer) _ left is = misses_not left is
-moves (stage.Commit commit.Encoding) (part.Header header_line.Encoding) left is =
-    record { own = refl; terms = left_is _ left is; kind = refl }
-moves (stage.Commit commit.Encoding) part.Data left is =
-    record { own = refl; terms = left_is _ left is; kind = refl }
-moves (stage.Commit commit.Encoding) _ left is = misses_not left is
-moves (stage.Commit commit.Data) part.Data left is =
-    record { own = refl; terms = left_is _ left is; kind = refl }
-moves (stage.Commit commit.Data) _ left is = misses_not left is
-moves (stage.Changes change.From) (part.CommitIsh commit_ish_line.From) left is =
-    record { own = refl; terms = left_is _ left is; kind = refl }
-moves (stage.Changes change.From) (part.CommitIsh commit_ish_line.Merge) left is =
-    record { own = refl; terms = left_is _ left is; kind = refl }
-moves (stage.Changes change.From) (part.Change change_line.Modify) left is =
-    record { own = refl; terms = left_is _ left is; kind = refl }
-moves (stage.Changes change.From) (part.Change change_line.ModifyInline) left is =
-    record { own = refl; terms = left_is _ left is; kind = refl }
-moves (stage.Changes change.From) (part.Change change_line.Delete) left is =
-    record { own = refl; terms = left_is _ left is; kind = refl }
-moves (stage.Changes change.From) (part.Change change_line.Copy) left is =
-    record { own = refl; terms = left_is _ left is; kind = refl }
-moves (stage.Changes change.From) (part.Change change_line.Rename) left is =
-    record { own = refl; terms = left_is _ left is; kind = refl }
-moves (stage.Changes change.From) (part.Change change_line.DeleteAll) left is =
-    record { own = refl; terms = left_is _ left is; kind = refl }
-moves (stage.Changes change.From) (part.Reply reply_line.CatBlob) left is =
-    record { own = refl; terms = left_is _ left is; kind = refl }
-moves (stage.Changes change.From) (part.Reply reply_line.Ls) left is =
-    record { own = refl; terms = left_is _ left is; kind = refl }
-moves (stage.Changes change.From) part.Blank left is =
-    record { own = refl; terms = left_is _ left is; kind = refl }
-moves (stage.Changes change.From) _ left is = ends_not left is
-moves (stage.Changes change.Merge) (part.CommitIsh commit_ish_line.Merge) left is =
-    record { own = refl; terms = left_is _ left is; kind = refl }
-moves (stage.Changes change.Merge) (part.Change change_line.Modify) left is =
-    record { own = refl; terms = left_is _ left is; kind = refl }
-moves (stage.Changes change.Merge) (part.Change change_line.ModifyInline) left is =
-    record { own = refl; terms = left_is _ left is; kind = refl }
-moves (stage.Changes change.Merge) (part.Change change_line.Delete) left is =
-    record { own = refl; terms = left_is _ left is; kind = refl }
-moves (stage.Changes change.Merge) (part.Change change_line.Copy) left is =
-    record { own = refl; terms = left_is _ left is; kind = refl }
-moves (stage.Changes change.Merge) (part.Change change_line.Rename) left is =
-    record { own = refl; terms = left_is _ left is; kind = refl }
-moves (stage.Changes change.Merge) (part.Change change_line.DeleteAll) left is =
-    record { own = refl; terms = left_is _ left is; kind = refl }
-moves (stage.Changes change.Merge) (part.Reply reply_line.CatBlob) left is =
-    record { own = refl; terms = left_is _ left is; kind = refl }
-moves (stage.Changes change.Merge) (part.Reply reply_line.Ls) left is =
-    record { own = refl; terms = left_is _ left is; kind = refl }
-moves (stage.Changes change.Merge) part.Blank left is =
-    record { own = refl; terms = left_is _ left is; kind = refl }
-moves (stage.Changes change.Merge) _ left is = ends_not left is
-moves (stage.Changes change.Change) (part.Change change_line.Modify) left is =
-    record { own = refl; terms = left_is _ left is; kind = refl }
-moves (stage.Changes change.Change) (part.Change change_line.ModifyInline) left is =
-    record { own = refl; terms = left_is _ left is; kind = refl }
-moves (stage.Changes change.Change) (part.Change change_line.Delete) left is =
-    record { own = refl; terms = left_is _ left is; kind = refl }
-moves (stage.Changes change.Change) (part.Change change_line.Copy) left is =
-    record { own = refl; terms = left_is _ left is; kind = refl }
-moves (stage.Changes change.Change) (part.Change change_line.Rename) left is =
-    record { own = refl; terms = left_is _ left is; kind = refl }
-moves (stage.Changes change.Change) (part.Change change_line.DeleteAll) left is =
-    record { own = refl; terms = left_is _ left is; kind = refl }
-moves (stage.Changes change.Change) (part.Reply reply_line.CatBlob) left is =
-    record { own = refl; terms = left_is _ left is; kind = refl }
-moves (stage.Changes change.Change) (part.Reply reply_line.Ls) left is =
-    record { own = refl; terms = left_is _ left is; kind = refl }
-moves (stage.Changes change.Change) part.Blank left is =
-    record { own = refl; terms = left_is _ left is; kind = refl }
-moves (stage.Changes change.Change) _ left is = ends_not left is
-moves stage.Inline part.Data left is = record { own = refl; terms = left_is _ left is; kind = refl }
-moves stage.Inline _ left is = misses_not left is
-moves (stage.Tag tag.Mark) (part.Header header_line.Mark) left is = record { own = refl; terms = left_is _ left is; kind = refl }
-moves (stage.Tag tag.Mark) (part.CommitIsh commit_ish_line.From) left is = record { own = refl; terms = left_is _ left is; kind = refl }
-moves (stage.Tag tag.Mark) _ left is = misses_not left is
-moves (stage.Tag tag.From) (part.CommitIsh commit_ish_line.From) left is = record { own = refl; terms = left_is _ left is; kind = refl }
-moves (stage.Tag tag.From) _ left is = misses_not left is
-moves (stage.Tag tag.OriginalOid) (part.Header header_line.OriginalOid) left is =
-    record { own = refl; terms = left_is _ left is; kind = refl }
-moves (stage.Tag tag.OriginalOid) (part.Header header_line.Tagger) left is =
-    record { own = refl; terms = left_is _ left is; kind = refl }
-moves (stage.Tag tag.OriginalOid) part.Data left is =
-    record { own = refl; terms = left_is _ left is; kind = refl }
-moves (stage.Tag tag.OriginalOid) _ left is = misses_not left is
-moves (stage.Tag tag.Tagger) (part.Header header_line.Tagger) left is = record { own = refl; terms = left_is _ left is; kind = refl }
-moves (stage.Tag tag.Tagger) part.Data left is = record { own = refl; terms = left_is _ left is; kind = refl }
-moves (stage.Tag tag.Tagger) _ left is = misses_not left is
-moves (stage.Tag tag.Data) part.Data left is = record { own = refl; terms = left_is _ left is; kind = refl }
-moves (stage.Tag tag.Data) _ left is = misses_not left is
-moves (stage.Reset reset.From) (part.CommitIsh commit_ish_line.From) left is = record { own = refl; terms = left_is _ left is; kind = refl }
-moves (stage.Reset reset.From) part.Blank left is = record { own = refl; terms = left_is _ left is; kind = refl }
-moves (stage.Reset reset.From) _ left is = ends_not left is
-moves (stage.Reset reset.Blank) part.Blank left is = record { own = refl; terms = left_is _ left is; kind = refl }
-moves (stage.Reset reset.Blank) _ left is = ends_not left is
-moves (stage.Alias alias.Mark) (part.Header header_line.Mark) left is = record { own = refl; terms = left_is _ left is; kind = refl }
-moves (stage.Alias alias.Mark) _ left is = misses_not left is
-moves (stage.Alias alias.To) (part.CommitIsh commit_ish_line.To) left is = record { own = refl; terms = left_is _ left is; kind = refl }
-moves (stage.Alias alias.To) _ left is = misses_not left is
+moves at taken left is = by_own (belongs (opened_of at) taken) refl
+  where
+    tested : MovesIf taken at (Stands left)
+    tested = subst (MovesIf taken at) is (moves_if at taken)
+
+    by_own : (own : Bool) → belongs (opened_of at) taken ≡ own → Moves taken at left
+    by_own true own = record { own = own; terms = tested.1; kind = tested.2 }
+    by_own false other = absurd (false≢true (sym tested.0 ∙ ap not other))
 
 -- the stage after a part that begins a command
 abbrev first : Part → Stage
@@ -357,11 +253,6 @@ any_read : {A B : Type 0} (Q : B → Type 0) (reading : Result A TextFault)
 any_read Q (Ok value) next later = later value
 any_read Q (Err e) next later = tt
 
-any_then : {A B : Type 0} (Q : B → Type 0) (r : Result A Fault) (next : A → Result B Fault)
-    → ((value : A) → IfOk (next value) Q) → IfOk (and_then r next) Q
-any_then Q (Ok value) next later = later value
-any_then Q (Err e) next later = tt
-
 -- read for an act, which is brought
 twice : {A : Type 0} (Q : Given → Type 0) (mark : Option ℕ) (reading : Result A TextFault)
     (next : A → Act) → ((value : A) → Q (record { mark = mark; act = next value }))
@@ -404,7 +295,7 @@ HeaderThere effect = IsCommit effect.workspace.stream.command
 
 header_there : (more : CommitHeader → CommitHeader) (w : Workspace)
     → IfOk (in_commit_header more w) HeaderThere
-header_there more w = any_then HeaderThere (commit_header_in w.stream.command) _ (λ header. tt)
+header_there more w = then_any HeaderThere (commit_header_in w.stream.command) _ (λ header. tt)
 
 -- a committer is named there after his line, and stays so
 abbrev Named : Effect → Type 0
@@ -412,7 +303,7 @@ Named effect = HasCommitter effect.workspace.stream.command
 
 committer_there : (ident : List ℕ) (w : Workspace)
     → IfOk (in_commit_header (λ header. record header { committer = Some ident }) w) Named
-committer_there ident w = any_then Named (commit_header_in w.stream.command) _ (λ header. tt)
+committer_there ident w = then_any Named (commit_header_in w.stream.command) _ (λ header. tt)
 
 committer_stays : (encoding : List ℕ) (w : Workspace) → HasCommitter w.stream.command
     → IfOk (in_commit_header (λ header. record header { encoding = Some encoding }) w) Named
@@ -431,7 +322,7 @@ TargetThere effect = HasTarget effect.workspace.stream.command
 
 target_there : (target : CommitIsh) (w : Workspace)
     → IfOk (in_tag_header (λ header. record header { target = Some target }) w) TargetThere
-target_there target w = any_then TargetThere (tag_header_in w.stream.command) _ (λ header. tt)
+target_there target w = then_any TargetThere (tag_header_in w.stream.command) _ (λ header. tt)
 
 target_stays : (ident : List ℕ) (w : Workspace) → HasTarget w.stream.command
     → IfOk (in_tag_header (λ header. record header { tagger = Some ident }) w) TargetThere
@@ -451,18 +342,18 @@ CommitThere effect = IsChanging effect.workspace.stream.command
 commit_there : (change : OpenCommit → Result OpenCommit Fault) (w : Workspace)
     → IfOk (in_changes change w) CommitThere
 commit_there change w =
-    any_then CommitThere (changes_in w.stream.command) _ (λ commit.
-    any_then CommitThere (change commit) _ (λ next. tt))
+    then_any CommitThere (changes_in w.stream.command) _ (λ commit.
+    then_any CommitThere (change commit) _ (λ next. tt))
 
 message_there : (mark : Option ℕ) (message : List ℕ) (w : Workspace)
     → IfOk (and_then (commit_header_in w.stream.command) (λ said.
     commit_opened mark message said w)) CommitThere
 message_there mark message w =
-    any_then CommitThere (commit_header_in w.stream.command) _ (λ said.
-    any_then CommitThere (header_said mark said) _ (λ header.
-    any_then CommitThere
+    then_any CommitThere (commit_header_in w.stream.command) _ (λ said.
+    then_any CommitThere (header_said mark said) _ (λ header.
+    then_any CommitThere
     (branch_set w.stream.branches header.ref (tip_for (tip_commit w.stream.branches header.ref))) _
-    (λ branches. any_then CommitThere
+    (λ branches. then_any CommitThere
     (begun_from w.objects (tip_commit w.stream.branches header.ref) (begun_commit header message)) _
     (λ opening. tt))))
 
@@ -472,30 +363,33 @@ inline_there : (file : InlineFile) (w : Workspace)
     quiet (with_command w (open_command.Inline commit file))))
     (λ effect. IsInline effect.workspace.stream.command)
 inline_there file w =
-    any_then (λ (effect : Effect). IsInline effect.workspace.stream.command)
+    then_any (λ (effect : Effect). IsInline effect.workspace.stream.command)
     (changes_in w.stream.command) _ (λ commit. tt)
 
 file_there : (digest : List ℕ → List ℕ) (bytes : List ℕ) (w : Workspace)
     → IfOk (and_then (inline_in w.stream.command) (λ inline.
     file_stored digest bytes inline.0 inline.1 w)) CommitThere
 file_there digest bytes w =
-    any_then CommitThere (inline_in w.stream.command) _ (λ inline.
-    any_then CommitThere
+    then_any CommitThere (inline_in w.stream.command) _ (λ inline.
+    then_any CommitThere
     (changed_or (contents_put digest w.objects inline.1.mode inline.1.path bytes inline.0)) _
     (λ left. tt))
 
 reset_there : (ref : List ℕ) (w : Workspace)
     → IfOk (branch_unborn ref w) (λ effect. IsReset effect.workspace.stream.command)
 reset_there ref w =
-    any_then (λ (effect : Effect). IsReset effect.workspace.stream.command)
+    then_any (λ (effect : Effect). IsReset effect.workspace.stream.command)
     (branch_set w.stream.branches ref Unborn) _ (λ branches. tt)
 
 -- ---- what a part of the open command gives
 
 -- an act that fits, and leaves open what a stage needs
+abbrev Begins : (List ℕ → List ℕ) → Stage → Workspace → Act → Type 0
+Begins digest to w act =
+    Fits act w × IfOk (after_act digest act w) (λ effect. IsOpenAt to effect.workspace)
+
 abbrev Goes : (List ℕ → List ℕ) → Stage → Workspace → Given → Type 0
-Goes digest to w given =
-    Fits given.act w × IfOk (after_act digest given.act w) (λ effect. IsOpenAt to effect.workspace)
+Goes digest to w given = Begins digest to w given.act
 
 alias_goes : (digest : List ℕ → List ℕ) (mark : Option ℕ) (commit : CommitIsh) (w : Workspace)
     → Goes digest stage.Top w (record { mark = None; act = alias_act mark commit })
@@ -584,8 +478,8 @@ change_goes digest n (part.Reply reply_line.CatBlob) left is line mark text w th
     (λ object. Reply (CatBlob object))
     (λ object. (
       tt,
-      any_then CommitThere (referred_name w.stream.marks object) _ (λ id.
-          any_then CommitThere (shown_object id (object_named id w.objects)) _ (λ line. there)),
+      then_any CommitThere (referred_name w.stream.marks object) _ (λ id.
+          then_any CommitThere (shown_object id (object_named id w.objects)) _ (λ line. there)),
     ))
 change_goes digest n (part.Reply reply_line.Ls) left is line mark text w there =
     ls_goes (is_quoted (argument text)) (argument text)
@@ -598,8 +492,8 @@ change_goes digest n (part.Reply reply_line.Ls) left is line mark text w there =
         (λ path. Reply (LsInCommit path))
         (λ path. (
           there,
-          any_then CommitThere (changes_in w.stream.command) _ (λ commit.
-              any_then CommitThere
+          then_any CommitThere (changes_in w.stream.command) _ (λ commit.
+              then_any CommitThere
               (changed_or (commit_entry_shown digest w.objects commit.files path)) _ (λ shown. there)),
         ))
     ls_goes false rest =
@@ -607,7 +501,7 @@ change_goes digest n (part.Reply reply_line.Ls) left is line mark text w there =
         (λ entry. Reply (Ls entry.0 entry.1))
         (λ entry. (
           tt,
-          any_then CommitThere
+          then_any CommitThere
               (entry_shown w.objects w.stream.marks entry.0 entry.1) _ (λ line. there),
         ))
 change_goes digest n taken left is line mark text w there =
@@ -726,10 +620,6 @@ fits_reply reply_line.CatBlob text =
     any_read FitsAnywhere (dataref_of (argument text)) _ (λ object w. tt)
 fits_reply reply_line.Ls text =
     any_read FitsAnywhere (object_and_path (argument text)) _ (λ entry w. tt)
-
-abbrev Begins : (List ℕ → List ℕ) → Stage → Workspace → Act → Type 0
-Begins digest to w act =
-    Fits act w × IfOk (after_act digest act w) (λ effect. IsOpenAt to effect.workspace)
 
 good_first_line : (digest : List ℕ → List ℕ) (late : Bool) (command : Part) (text : List ℕ)
     (w : Workspace) → IfOk (first_act late command (Line text)) (Begins digest (first command) w)
@@ -918,17 +808,7 @@ act_fits digest now item done w = by_parsing now.parsing
 
 -- what an item leaves of a running stream, by its parser
 abbrev going : (List ℕ → List ℕ) → Workspace → Result Done TextFault → Parsing → Result Step Fault
-going digest before given left =
-    and_then (text_first given) (λ done.
-    and_then (closed_where digest done.ends_commit before) (λ w.
-    and_then (after_act digest done.act w) (λ effect. Ok (record {
-      running = record {
-        workspace = effect.workspace;
-        parsing = left;
-        is_done = is_finish done.act;
-      };
-      reply = effect.reply;
-    }))))
+going digest before given left = and_then (text_first given) (done_step digest before left)
 
 abbrev LeavesInStep : Step → Type 0
 LeavesInStep left = IsInStep left.running
@@ -941,31 +821,13 @@ going_in_step digest before (Err e) in_step = tt
 going_in_step digest before (Ok given) in_step =
     by_end (closed_where digest given.done.ends_commit before) refl
   where
-    by_effect : (r : Result Effect Fault)
-        → IfOk r (λ effect. IsAtStage given.next effect.workspace)
-        → IfOk (and_then r (λ effect. Ok (record {
-          running = record {
-            workspace = effect.workspace;
-            parsing = Ok given.next;
-            is_done = is_finish given.done.act;
-          };
-          reply = effect.reply;
-        }))) LeavesInStep
-    by_effect (Ok effect) at = at
-    by_effect (Err e) at = tt
-
     by_end : (end : Result Workspace Fault)
         → closed_where digest given.done.ends_commit before ≡ end
-        → IfOk (and_then end (λ w. and_then (after_act digest given.done.act w) (λ effect.
-        Ok (record {
-          running = record {
-            workspace = effect.workspace;
-            parsing = Ok given.next;
-            is_done = is_finish given.done.act;
-          };
-          reply = effect.reply;
-        })))) LeavesInStep
-    by_end (Ok w) closed = by_effect (after_act digest given.done.act w) (in_step w closed).1
+        → IfOk (and_then end (λ w. and_then (after_act digest given.done.act w)
+        (λ effect. Ok (stepped effect (Ok given.next) (is_finish given.done.act))))) LeavesInStep
+    by_end (Ok w) closed =
+        then_good (λ (effect : Effect). IsAtStage given.next effect.workspace) LeavesInStep
+        (after_act digest given.done.act w) _ (in_step w closed).1 (λ effect at. at)
     by_end (Err e) closed = tt
 
 taken_in_step : (digest : List ℕ → List ℕ) (before : Workspace) (parsing : Parsing) (item : Item)
@@ -977,16 +839,6 @@ taken_in_step digest before (Err e) item at = tt
 
 pub item_in_step : (digest : List ℕ → List ℕ) (now : Running) (item : Item) (left : Step)
     → IsInStep now → step digest now item ≡ Ok left → IsInStep left.running
-unfolding step
-item_in_step digest now item left at is =
-    let over : Result Step Fault = Ok (record { running = now; reply = [] }) in
-    by_test now.is_done
-    (λ done. from_ok over at
-    (sym (cond-true now.is_done over (taken_by digest now item) done) ∙ is))
-    (λ runs. from_ok (taken_by digest now item)
+item_in_step digest now item left at =
+    step_leaves LeavesInStep digest now item left at
     (taken_in_step digest now.workspace now.parsing item at)
-    (sym (step_running digest now item runs) ∙ is))
-  where
-    from_ok : (r : Result Step Fault) → IfOk r LeavesInStep → r ≡ Ok left → LeavesInStep left
-    from_ok (Ok other) in_step same = let is : other ≡ left = cc in subst LeavesInStep is in_step
-    from_ok (Err e) in_step same = let no = same in cc

@@ -84,22 +84,13 @@ then_known (Err e) next known later = known
 
 changed_known : {A : Type 0} (r : Result A CommitFault) → Known (changed_or r)
 changed_known (Ok value) = tt
-changed_known (Err commit_fault.MarkUnknown) = λ is. cc
-changed_known (Err commit_fault.ObjectUnknown) = λ is. cc
-changed_known (Err commit_fault.WrongKind) = λ is. cc
-changed_known (Err commit_fault.SourceMissing) = λ is. cc
-changed_known (Err commit_fault.RootNotDirectory) = λ is. cc
-changed_known (Err commit_fault.NameCollision) = λ is. cc
-changed_known (Err commit_fault.Limit) = λ is. cc
 changed_known (Err commit_fault.Memory) = λ is. cc
+changed_known (Err e) = λ is. cc
 
 resolved_known : {A : Type 0} (r : Result A RevisionFault) → Known (resolved_or r)
 resolved_known (Ok value) = tt
-resolved_known (Err revision_fault.Malformed) = λ is. cc
-resolved_known (Err revision_fault.WrongKind) = λ is. cc
-resolved_known (Err revision_fault.UnknownRevision) = λ is. cc
-resolved_known (Err revision_fault.Ambiguous) = λ is. cc
 resolved_known (Err revision_fault.Memory) = λ is. cc
+resolved_known (Err e) = λ is. cc
 
 stored_known : (digest : List ℕ → List ℕ) (content : Content) (os : List Object)
     → Known (with_content digest content os)
@@ -160,44 +151,46 @@ said_known : {A : Type 0} (said : Option A) → IsThere said → Known (already_
 said_known None there = absurd there
 said_known (Some value) there = tt
 
+commit_header_found : (command : OpenCommand OpenCommit) → IsCommit command
+    → Known (commit_header_in command)
+commit_header_found (open_command.Commit header) there = tt
+commit_header_found _ there = absurd there
+
+tag_header_found : (command : OpenCommand OpenCommit) → IsTag command
+    → Known (tag_header_in command)
+tag_header_found (open_command.Tag header) there = tt
+tag_header_found _ there = absurd there
+
+changes_found : (command : OpenCommand OpenCommit) → IsChanging command
+    → Known (changes_in command)
+changes_found (open_command.Changes commit) there = tt
+changes_found _ there = absurd there
+
 commit_header_known : (more : CommitHeader → CommitHeader) (w : Workspace)
     → IsCommit w.stream.command → Known (in_commit_header more w)
-commit_header_known more w there = by_command w.stream.command there
-  where
-    by_command : (command : OpenCommand OpenCommit) → IsCommit command
-        → Known (and_then (commit_header_in command) (λ header.
-        quiet (with_command w (open_command.Commit (more header)))))
-    by_command (open_command.Commit header) there = tt
-    by_command _ there = absurd there
+commit_header_known more w there =
+    then_known (commit_header_in w.stream.command) _ (commit_header_found w.stream.command there)
+    (λ header. tt)
 
 tag_header_known : (more : TagHeader → TagHeader) (w : Workspace)
     → IsTag w.stream.command → Known (in_tag_header more w)
-tag_header_known more w there = by_command w.stream.command there
-  where
-    by_command : (command : OpenCommand OpenCommit) → IsTag command
-        → Known (and_then (tag_header_in command) (λ header.
-        quiet (with_command w (open_command.Tag (more header)))))
-    by_command (open_command.Tag header) there = tt
-    by_command _ there = absurd there
+tag_header_known more w there =
+    then_known (tag_header_in w.stream.command) _ (tag_header_found w.stream.command there)
+    (λ header. tt)
 
 open_known : (change : OpenCommit → Result OpenCommit Fault) (w : Workspace)
     → IsChanging w.stream.command
     → ((commit : OpenCommit) → Known (change commit)) → Known (in_changes change w)
-open_known change w there known = by_command w.stream.command there
-  where
-    by_command : (command : OpenCommand OpenCommit) → IsChanging command
-        → Known (and_then (changes_in command) (λ commit. and_then (change commit) (λ next.
-        quiet (with_command w (open_command.Changes next)))))
-    by_command (open_command.Changes commit) there =
-        then_known (change commit) _ (known commit) (λ next. tt)
-    by_command _ there = absurd there
+open_known change w there known =
+    then_known (changes_in w.stream.command) _ (changes_found w.stream.command there) (λ commit.
+    then_known (change commit) _ (known commit) (λ next. tt))
 
 inline_known : (file : InlineFile) (w : Workspace) (command : OpenCommand OpenCommit)
     → IsChanging command
     → Known (and_then (changes_in command) (λ commit.
     quiet (with_command w (open_command.Inline commit file))))
-inline_known file w (open_command.Changes commit) there = tt
-inline_known file w _ there = absurd there
+inline_known file w command there =
+    then_known (changes_in command) _ (changes_found command there) (λ commit. tt)
 
 tagged_known : (mark : Option ℕ) (header : TagHeader) (w : Workspace)
     → IsThere header.target → Known (tagged mark header w)
@@ -274,10 +267,10 @@ entry_known : (digest : List ℕ → List ℕ) (path : _) (w : Workspace)
     (command : OpenCommand OpenCommit) → IsChanging command
     → Known (and_then (changes_in command) (λ commit.
     branch_entry_shown digest path commit w))
-entry_known digest path w (open_command.Changes commit) there =
+entry_known digest path w command there =
+    then_known (changes_in command) _ (changes_found command there) (λ commit.
     then_known (changed_or (commit_entry_shown digest w.objects commit.files path)) _
-    (changed_known (commit_entry_shown digest w.objects commit.files path)) (λ shown. tt)
-entry_known digest path w _ there = absurd there
+    (changed_known (commit_entry_shown digest w.objects commit.files path)) (λ shown. tt))
 
 -- ---- the groups of commands
 

@@ -1,9 +1,9 @@
 -- A running stream stays sound.
 use Rattle.std.proofs.Common.{◌≡◌, ◌≢◌, ◌++◌, ◌≤◌, length, codes, ℕ, Bool, true, false, List, [], ◌∷◌, Option, Some, None, Result, Ok, Err, refl, sym, ap, ◌∙◌, subst, inl, inr, All}
-use Rattle.std.specs.Prelude.{if◌then◌else◌, IfOk, IfSome, drop, unwrap_or}
+use Rattle.std.specs.Prelude.{IfOk, IfSome, drop, unwrap_or}
 use Rattle.std.specs.Option.{option_map}
 use Rattle.std.specs.Str.{bytes_eq}
-use Rattle.std.proofs.lemmas.Bool.{false≢true}
+use Rattle.std.proofs.lemmas.Bool.{cond_both, false≢true}
 use Rattle.std.proofs.lemmas.List.Elements.{All-nil, All-cons, All-push}
 use Rattle.std.proofs.lemmas.Slice.Eq.{bytes_eq-Decides}
 use Rattle.git_model.specs.declared.kind.Kind.{Kind}
@@ -48,7 +48,7 @@ use Rattle.stream_parts.specs.declared.headers.InlineFile.{InlineFile}
 use Rattle.stream_parts.specs.Faults.{and_then, text_first}
 use Rattle.stream_commands.specs.Faults.{changed_or}
 use Rattle.stream_parts.specs.Branches.{Branches, branch_set, has_branch_room, head_in, ref_meant, with_branch, tip_commit, tip_for}
-use Rattle.stream_parts.specs.Marks.{marked_name, referred_name, room_for}
+use Rattle.stream_parts.specs.Marks.{marked_name, referred_name, room_for, with_mark}
 use Rattle.stream_parts.specs.Headers.{new_commit_header, new_tag_header}
 use Rattle.stream_parts.specs.OpenCommand.{OpenCommand, already_said, changes_in, commit_header_in, inline_in, reset_in, tag_header_in}
 use Rattle.stream_parts.specs.OpenCommand as open_command
@@ -86,8 +86,9 @@ use Rattle.import_session.specs.Stream.{Running, Step, commands_end, last_checkp
 use Rattle.import_session.proofs.SoundCommits.{IsCommitOf, by_test, commit_good, start_good, then_any, then_good, tip_commit_is}
 use Rattle.import_session.proofs.SoundEnds.{branch_keeps, branches_longer, from_ok, grown_by, marks_longer, marks_with, refs_grown, tags_grown, where_keeps}
 use Rattle.session_laws.proofs.SoundRefs.{refs_whole, saved_are}
-use Rattle.tenant_tables.proofs.StoredGood.{Holds, there}
-use Rattle.session_laws.proofs.SoundObjects.{IsStorable, content_good, named_by}
+use Rattle.tenant_tables.proofs.StoredGood.{Grows, Holds, there}
+use Rattle.session_laws.proofs.SoundObjects.{IsStorable, content_good}
+use Rattle.session_laws.proofs.StepLemmas.{step_leaves}
 use Rattle.session_laws.proofs.SoundTrees.{both_ok, content_fits, contents_left, fits_taken}
 use Rattle.tenant_tables.specs.Sums.{TreesFit}
 
@@ -131,6 +132,54 @@ held_kind os id content held = ap (option_map (λ (c : Content). c.kind)) held
 abbrev HoldsFitting : (List ℕ → List ℕ) → List Object → Content → List Object → Type 0
 HoldsFitting digest os content objects = Holds digest os objects content × TreesFit [] objects
 
+-- ---- more objects, and a mark
+
+objects_keep : (digest : List ℕ → List ℕ) (workspace : Workspace) (objects : List Object)
+    → IsSound digest workspace → Grows workspace.objects objects → AreObjects digest objects
+    → TreesFit [] objects → IsSound digest (record workspace { objects = objects })
+objects_keep digest workspace objects sound grows good fits = record {
+  objects = good;
+  trees = fits;
+  refs = refs_grown workspace.objects objects grows workspace.committed workspace.refs sound.refs;
+  next_head = sound.next_head;
+  marks = marks_longer workspace.objects objects grows workspace.stream.marks sound.marks;
+  branches = branches_longer workspace.objects objects grows workspace.stream.branches sound.branches;
+  tags = tags_grown workspace.objects objects grows workspace.stream.tags sound.tags;
+  command = command_grown workspace.objects objects grows workspace.stream.command sound.command;
+}
+
+mark_keeps : (digest : List ℕ → List ℕ) (workspace : Workspace) (mark : Option ℕ) (k : Kind)
+    (id : List ℕ) → IsSound digest workspace → kind_named id workspace.objects ≡ Some k
+    → IsSound digest (record workspace {
+      stream = record workspace.stream { marks = with_mark workspace.stream.marks mark k id };
+    })
+mark_keeps digest workspace mark k id sound stands = record {
+  objects = sound.objects;
+  trees = sound.trees;
+  refs = sound.refs;
+  next_head = sound.next_head;
+  marks = marks_with workspace.objects workspace.stream.marks mark k id sound.marks stands;
+  branches = sound.branches;
+  tags = sound.tags;
+  command = sound.command;
+}
+
+-- an object that a mark is set to is stored
+stored_keeps : (digest : List ℕ → List ℕ) (workspace : Workspace) (mark : Option ℕ)
+    (content : Content) (objects : List Object) → IsSound digest workspace
+    → HoldsFitting digest workspace.objects content objects
+    → IsSound digest (record workspace {
+      objects = objects;
+      stream = record workspace.stream {
+        marks = with_mark workspace.stream.marks mark content.kind (name_by digest content);
+      };
+    })
+stored_keeps digest workspace mark content objects sound both =
+    mark_keeps digest (record workspace { objects = objects }) mark content.kind
+    (name_by digest content)
+    (objects_keep digest workspace objects sound both.0.grows both.0.good both.1)
+    (held_kind objects (name_by digest content) content both.0.held)
+
 -- ---- blobs
 
 blob_keeps : (digest : List ℕ → List ℕ) → AnswersNames digest → (workspace : Workspace)
@@ -145,21 +194,7 @@ blob_keeps digest names workspace sound mark bytes =
     (content_good digest names workspace.objects sound.objects content
     (record { valid = tt; connected = All-nil _ }))
     (content_fits digest workspace.objects sound.trees content (λ tree. cc)))
-    (λ objects both. let keeps = both.0 in record {
-      objects = keeps.good;
-      trees = both.1;
-      refs = refs_grown workspace.objects objects keeps.grows workspace.committed workspace.refs
-          sound.refs;
-      next_head = sound.next_head;
-      marks = marks_with objects workspace.stream.marks mark kind.Blob (name_by digest content)
-          (marks_longer workspace.objects objects keeps.grows workspace.stream.marks sound.marks)
-          (held_kind objects (name_by digest content) content keeps.held);
-      branches = branches_longer workspace.objects objects keeps.grows workspace.stream.branches
-          sound.branches;
-      tags = tags_grown workspace.objects objects keeps.grows workspace.stream.tags sound.tags;
-      command = command_grown workspace.objects objects keeps.grows workspace.stream.command
-          sound.command;
-    }))
+    (λ objects both. stored_keeps digest workspace mark content objects sound both))
 
 -- ---- refs
 
@@ -210,6 +245,21 @@ command_keeps : (digest : List ℕ → List ℕ) (workspace : Workspace) (comman
     → IsSound digest (with_command workspace command)
 command_keeps digest workspace command sound is =
     branches_keep digest workspace workspace.stream.branches command sound sound.branches is
+
+tag_header_is : (os : List Object) (command : OpenCommand Opened) → IsSoundCommand os command
+    → IfOk (tag_header_in command) IsTagHeader
+tag_header_is os (open_command.Tag header) is = is
+tag_header_is os _ is = tt
+
+commit_header_is : (os : List Object) (command : OpenCommand Opened) → IsSoundCommand os command
+    → IfOk (commit_header_in command) IsCommitHeader
+commit_header_is os (open_command.Commit header) is = is
+commit_header_is os _ is = tt
+
+changes_are : (os : List Object) (command : OpenCommand Opened) → IsSoundCommand os command
+    → IfOk (changes_in command) (IsOpen os)
+changes_are os (open_command.Changes commit) is = is
+changes_are os _ is = tt
 
 -- ---- branches
 
@@ -265,17 +315,8 @@ alias_keeps : (digest : List ℕ → List ℕ) (workspace : Workspace) → IsSou
 alias_keeps digest workspace sound mark commit =
     then_good (IsCommitOf workspace.objects) (LeavesSound digest) (commit_in workspace commit) _
     (commit_good digest workspace sound.objects commit) (λ id stands.
-    then_any (LeavesSound digest) (room_for workspace.stream.marks (Some mark)) _ (λ _. record {
-      objects = sound.objects;
-      trees = sound.trees;
-      refs = sound.refs;
-      next_head = sound.next_head;
-      marks = marks_with workspace.objects workspace.stream.marks (Some mark) kind.Commit id
-          sound.marks stands;
-      branches = sound.branches;
-      tags = sound.tags;
-      command = sound.command;
-    }))
+    then_any (LeavesSound digest) (room_for workspace.stream.marks (Some mark)) _
+    (λ _. mark_keeps digest workspace (Some mark) kind.Commit id sound stands))
 
 -- ---- tags
 
@@ -284,14 +325,9 @@ tag_header_keeps : (digest : List ℕ → List ℕ) (workspace : Workspace) → 
     → ((header : TagHeader) → IsTagHeader header → IsTagHeader (more header))
     → IfOk (in_tag_header more workspace) (LeavesSound digest)
 tag_header_keeps digest workspace sound more keeps =
-    by_command workspace.stream.command sound.command
-  where
-    by_command : (command : OpenCommand Opened) → IsSoundCommand workspace.objects command
-        → IfOk (and_then (tag_header_in command) (λ header.
-        quiet (with_command workspace (open_command.Tag (more header))))) (LeavesSound digest)
-    by_command (open_command.Tag header) is =
-        command_keeps digest workspace (open_command.Tag (more header)) sound (keeps header is)
-    by_command _ is = tt
+    then_good IsTagHeader (LeavesSound digest) (tag_header_in workspace.stream.command) _
+    (tag_header_is workspace.objects workspace.stream.command sound.command) (λ header is.
+    command_keeps digest workspace (open_command.Tag (more header)) sound (keeps header is))
 
 new_tag : (ref : List ℕ) → IsTagRef ref → IsTagHeader (new_tag_header ref)
 new_tag ref is = record { ref = is; tagger = tt }
@@ -426,22 +462,18 @@ tag_keeps digest names workspace sound mark message header well =
         (both_ok (λ objects. Holds digest workspace.objects objects content) (TreesFit []) _
         (content_good digest names workspace.objects sound.objects content storable)
         (content_fits digest workspace.objects sound.trees content (λ tree. cc)))
-        (λ objects both. let keeps = both.0 in record {
-          objects = keeps.good;
-          trees = both.1;
-          refs = refs_grown workspace.objects objects keeps.grows workspace.committed workspace.refs
-              sound.refs;
-          next_head = sound.next_head;
-          marks = marks_with objects workspace.stream.marks mark kind.Tag (name_by digest content)
-              (marks_longer workspace.objects objects keeps.grows workspace.stream.marks sound.marks)
-              (held_kind objects (name_by digest content) content keeps.held);
-          branches = branches_longer workspace.objects objects keeps.grows workspace.stream.branches
-              sound.branches;
+        (λ objects both. let kept = stored_keeps digest workspace mark content objects sound both in
+        record {
+          objects = kept.objects;
+          trees = kept.trees;
+          refs = kept.refs;
+          next_head = kept.next_head;
+          marks = kept.marks;
+          branches = kept.branches;
           tags = All-push (IsPending objects) workspace.stream.tags
-              (header.ref_name, name_by digest content)
-              (tags_grown workspace.objects objects keeps.grows workspace.stream.tags sound.tags)
+              (header.ref_name, name_by digest content) kept.tags
               (tag_held header message target target_kind well can objects (name_by digest content)
-              keeps.held);
+              both.0.held);
           command = tt;
         })
 
@@ -450,9 +482,10 @@ tag_ends : (digest : List ℕ → List ℕ) → AnswersNames digest → (workspa
     (command : OpenCommand Opened) → IsSoundCommand workspace.objects command
     → IfOk (and_then (tag_header_in command) (λ header.
     tag_stored digest mark message header workspace)) (LeavesSound digest)
-tag_ends digest names workspace sound mark message (open_command.Tag header) well =
-    tag_keeps digest names workspace sound mark message header well
-tag_ends digest names workspace sound mark message _ is = tt
+tag_ends digest names workspace sound mark message command is =
+    then_good IsTagHeader (LeavesSound digest) (tag_header_in command) _
+    (tag_header_is workspace.objects command is)
+    (λ header well. tag_keeps digest names workspace sound mark message header well)
 
 -- ---- checkpoints
 
@@ -474,23 +507,12 @@ checkpoint_keeps digest workspace sound =
 
 -- ---- what sets and what prints
 
-feature_keeps : (digest : List ℕ → List ℕ) (workspace : Workspace) → IsSound digest workspace
-    → (wanted : Feature) → IsSound digest (feature_set wanted workspace)
-feature_keeps digest workspace sound feature.Done = switched
-  where
-    switched : IsSound digest
-        (record workspace { stream = record workspace.stream { needs_done = true } })
-    switched = record {
-      objects = sound.objects;
-      trees = sound.trees;
-      refs = sound.refs;
-      next_head = sound.next_head;
-      marks = sound.marks;
-      branches = sound.branches;
-      tags = sound.tags;
-      command = sound.command;
-    }
-feature_keeps digest workspace sound feature.Force = record {
+switches_keep : (digest : List ℕ → List ℕ) (workspace : Workspace) (forces needs_done : Bool)
+    → IsSound digest workspace
+    → IsSound digest (record workspace {
+      stream = record workspace.stream { forces = forces; needs_done = needs_done };
+    })
+switches_keep digest workspace forces needs_done sound = record {
   objects = sound.objects;
   trees = sound.trees;
   refs = sound.refs;
@@ -500,6 +522,13 @@ feature_keeps digest workspace sound feature.Force = record {
   tags = sound.tags;
   command = sound.command;
 }
+
+feature_keeps : (digest : List ℕ → List ℕ) (workspace : Workspace) → IsSound digest workspace
+    → (wanted : Feature) → IsSound digest (feature_set wanted workspace)
+feature_keeps digest workspace sound feature.Done =
+    switches_keep digest workspace workspace.stream.forces true sound
+feature_keeps digest workspace sound feature.Force =
+    switches_keep digest workspace true workspace.stream.needs_done sound
 feature_keeps digest workspace sound _ = sound
 
 head_keeps : (digest : List ℕ → List ℕ) (workspace : Workspace) → IsSound digest workspace
@@ -555,25 +584,21 @@ commit_keeps : (digest : List ℕ → List ℕ) (workspace : Workspace) → IsSo
     → IsSoundCommand workspace.objects command
     → IfOk (and_then (commit_header_in command) (λ said.
     commit_opened mark message said workspace)) (LeavesSound digest)
-commit_keeps digest workspace sound mark message (open_command.Commit said) well =
+commit_keeps digest workspace sound mark message command is =
+    then_good IsCommitHeader (LeavesSound digest) (commit_header_in command) _
+    (commit_header_is workspace.objects command is) (λ said well.
     then_good IsReady (LeavesSound digest) (header_said mark said) _
     (header_can mark said well said.committer well.committer)
-    (λ header ready. opened_keeps digest workspace sound message header ready)
-commit_keeps digest workspace sound mark message _ is = tt
+    (λ header ready. opened_keeps digest workspace sound message header ready))
 
 commit_header_keeps : (digest : List ℕ → List ℕ) (workspace : Workspace)
     → IsSound digest workspace → (more : CommitHeader → CommitHeader)
     → ((header : CommitHeader) → IsCommitHeader header → IsCommitHeader (more header))
     → IfOk (in_commit_header more workspace) (LeavesSound digest)
 commit_header_keeps digest workspace sound more keeps =
-    by_command workspace.stream.command sound.command
-  where
-    by_command : (command : OpenCommand Opened) → IsSoundCommand workspace.objects command
-        → IfOk (and_then (commit_header_in command) (λ header.
-        quiet (with_command workspace (open_command.Commit (more header))))) (LeavesSound digest)
-    by_command (open_command.Commit header) is =
-        command_keeps digest workspace (open_command.Commit (more header)) sound (keeps header is)
-    by_command _ is = tt
+    then_good IsCommitHeader (LeavesSound digest) (commit_header_in workspace.stream.command) _
+    (commit_header_is workspace.objects workspace.stream.command sound.command) (λ header is.
+    command_keeps digest workspace (open_command.Commit (more header)) sound (keeps header is))
 
 contents_sound : (digest : List ℕ → List ℕ) → AnswersNames digest → (workspace : Workspace)
     → IsSound digest workspace → (bytes : List ℕ) (command : OpenCommand Opened)
@@ -587,20 +612,11 @@ contents_sound digest names workspace sound bytes (open_command.Inline commit fi
     (both_ok (LeavesOpen digest os) (λ left. TreesFit [] left.objects) _
     (contents_open digest names os sound.objects commit is.0 file.mode file.path is.1 bytes)
     (contents_left digest os sound.trees commit file.mode file.path bytes))
-    (λ left both. let good = both.0 in record {
-      objects = good.grows.good;
-      trees = both.1;
-      refs = refs_grown os left.objects (grown_by digest os left.objects good.grows)
-          workspace.committed workspace.refs sound.refs;
-      next_head = sound.next_head;
-      marks = marks_longer os left.objects (grown_by digest os left.objects good.grows)
-          workspace.stream.marks sound.marks;
-      branches = branches_longer os left.objects (grown_by digest os left.objects good.grows)
-          workspace.stream.branches sound.branches;
-      tags = tags_grown os left.objects (grown_by digest os left.objects good.grows)
-          workspace.stream.tags sound.tags;
-      command = good.open_commit;
-    })
+    (λ left both. let good = both.0 in
+    command_keeps digest (record workspace { objects = left.objects })
+    (open_command.Changes left.commit)
+    (objects_keep digest workspace left.objects sound (grown_by digest os left.objects good.grows)
+    good.grows.good both.1) good.open_commit)
 contents_sound digest names workspace sound bytes _ is = tt
 
 entry_sound : (digest : List ℕ → List ℕ) → AnswersNames digest → (workspace : Workspace)
@@ -624,20 +640,8 @@ entry_sound digest names workspace sound path (open_command.Changes commit) is =
     by_shown (Err e) good fit = tt
     by_shown (Ok shown) good fit =
         let grows = good shown refl in
-        let more = grown_by digest workspace.objects shown.objects grows in
-        record {
-          objects = grows.good;
-          trees = fit shown refl;
-          refs = refs_grown workspace.objects shown.objects more workspace.committed workspace.refs
-              sound.refs;
-          next_head = sound.next_head;
-          marks = marks_longer workspace.objects shown.objects more workspace.stream.marks sound.marks;
-          branches = branches_longer workspace.objects shown.objects more workspace.stream.branches
-              sound.branches;
-          tags = tags_grown workspace.objects shown.objects more workspace.stream.tags sound.tags;
-          command = command_grown workspace.objects shown.objects more workspace.stream.command
-              sound.command;
-        }
+        objects_keep digest workspace shown.objects sound
+        (grown_by digest workspace.objects shown.objects grows) grows.good (fit shown refl)
 entry_sound digest names workspace sound path _ is = tt
 
 -- the open commit changes
@@ -647,16 +651,10 @@ commit_changed : (digest : List ℕ → List ℕ) (workspace : Workspace) → Is
     → IfOk (change commit) (IsOpen workspace.objects))
     → IfOk (in_changes change workspace) (LeavesSound digest)
 commit_changed digest workspace sound change keeps =
-    by_command workspace.stream.command sound.command
-  where
-    by_command : (command : OpenCommand Opened) → IsSoundCommand workspace.objects command
-        → IfOk (and_then (changes_in command) (λ commit. and_then (change commit) (λ next.
-        quiet (with_command workspace (open_command.Changes next))))) (LeavesSound digest)
-    by_command (open_command.Changes commit) is =
-        then_good (IsOpen workspace.objects) (LeavesSound digest) (change commit) _ (keeps commit is)
-        (λ next good.
-        command_keeps digest workspace (open_command.Changes next) sound good)
-    by_command _ is = tt
+    then_good (IsOpen workspace.objects) (LeavesSound digest) (changes_in workspace.stream.command) _
+    (changes_are workspace.objects workspace.stream.command sound.command) (λ commit is.
+    then_good (IsOpen workspace.objects) (LeavesSound digest) (change commit) _ (keeps commit is)
+    (λ next good. command_keeps digest workspace (open_command.Changes next) sound good))
 
 -- a file of it waits for its data
 inline_waits : (digest : List ℕ → List ℕ) (workspace : Workspace) → IsSound digest workspace
@@ -664,9 +662,10 @@ inline_waits : (digest : List ℕ → List ℕ) (workspace : Workspace) → IsSo
     → IsSoundCommand workspace.objects command
     → IfOk (and_then (changes_in command) (λ commit.
     quiet (with_command workspace (open_command.Inline commit file)))) (LeavesSound digest)
-inline_waits digest workspace sound file path (open_command.Changes commit) is =
-    command_keeps digest workspace (open_command.Inline commit file) sound (is, path)
-inline_waits digest workspace sound file path _ is = tt
+inline_waits digest workspace sound file path command is =
+    then_good (IsOpen workspace.objects) (LeavesSound digest) (changes_in command) _
+    (changes_are workspace.objects command is)
+    (λ commit good. command_keeps digest workspace (open_command.Inline commit file) sound (good, path))
 
 -- ---- the groups of commands
 
@@ -839,38 +838,22 @@ taken_keeps digest names now item sound =
     (after_act digest done.act workspace) _
     (act_keeps digest names workspace kept done.act well) (λ effect left. left)))
 
-if_true : {A : Type 0} (test : Bool) (x y : A) → test ≡ true → (if test then x else y) ≡ x
-if_true true x y e = refl
-if_true false x y e = cc
-
-if_false : {A : Type 0} (test : Bool) (x y : A) → test ≡ false → (if test then x else y) ≡ y
-if_false true x y e = cc
-if_false false x y e = refl
-
 pub item_keeps : (digest : List ℕ → List ℕ) → AnswersNames digest → (now : Running) (item : Item)
     (next : Step) → IsSound digest now.workspace → step digest now item ≡ Ok next
     → IsSound digest next.running.workspace
-unfolding step
-item_keeps digest names now item next sound e =
-    let over : Result Step Fault = Ok (record { running = now; reply = [] }) in
-    by_test now.is_done
-    (λ done. from_ok (StepsSoundly digest) over next
-    (sym (if_true now.is_done over (taken digest now item) done) ∙ e) sound)
-    (λ runs. from_ok (StepsSoundly digest) (taken digest now item) next
-    (sym (if_false now.is_done over (taken digest now item) runs) ∙ e)
-    (taken_keeps digest names now item sound))
+item_keeps digest names now item next sound =
+    step_leaves (StepsSoundly digest) digest now item next sound
+    (taken_keeps digest names now item sound)
 
 pub end_keeps : (digest : List ℕ → List ℕ) → AnswersNames digest → (now : Running) (effect : Effect)
     → IsSound digest now.workspace → session_end digest now ≡ Ok effect
     → IsSound digest effect.workspace
 unfolding session_end
 end_keeps digest names now effect sound e =
-    by_test now.is_done
-    (λ done. from_ok (LeavesSound digest) (quiet now.workspace) effect
-    (sym (if_true now.is_done (quiet now.workspace) (commands_end digest now) done) ∙ e) sound)
-    (λ runs. from_ok (LeavesSound digest) (commands_end digest now) effect
-    (sym (if_false now.is_done (quiet now.workspace) (commands_end digest now) runs) ∙ e)
-    (then_any (LeavesSound digest) (text_first (end_of now.parsing)) _ (λ ends_commit.
+    from_ok (LeavesSound digest) (session_end digest now) effect e
+    (cond_both now.is_done (quiet now.workspace) (commands_end digest now)
+    (λ r. IfOk r (LeavesSound digest)) (λ done. sound)
+    (λ runs. then_any (LeavesSound digest) (text_first (end_of now.parsing)) _ (λ ends_commit.
     then_any (LeavesSound digest) (unless_done_missing now.workspace) _ (λ _.
     then_good (IsSound digest) (LeavesSound digest)
     (closed_where digest ends_commit now.workspace) _

@@ -121,7 +121,7 @@ refused_by (Ok s) next out out' e other taken = absurd (other taken)
 refused_by (Err refusal) next out out' e other taken = ap (λ x. Err x) (sym (taken other))
 
 -- so far, and no further
-ended : (digest : List ℕ → List ℕ) (now : Running) (old : Tail) (out : List ℕ) (items : List Item)
+pub ended : (digest : List ℕ → List ℕ) (now : Running) (old : Tail) (out : List ℕ) (items : List Item)
     (replies : List ℕ) (mid : Running)
     (rest : Tail) (left : Running) (at out' : List ℕ)
     → Advances digest now old items replies mid rest → at ≡ out ++ replies → out' ≡ at
@@ -164,58 +164,8 @@ pub item_stops : (digest : List ℕ → List ℕ) (now : Running) (old : Tail) (
 item_stops digest now old out items mid rest item new left at out' count fault.Memory ends counted
     takes taken =
     record { items = items; last = mid; rest = rest; ends = ends; counted = counted }
-item_stops digest now old out items mid rest item new left at out' count
-    (fault.Text t) ends counted takes taken =
-    fails digest now old out items mid rest item new left at out' (fault.Text t) ends takes
-    (λ e. cc) taken
-item_stops digest now old out items mid rest item new left at out' count fault.DoneMissing ends
-    counted takes taken =
-    fails digest now old out items mid rest item new left at out' fault.DoneMissing ends takes
-    (λ e. cc) taken
-item_stops digest now old out items mid rest item new left at out' count fault.MarkUnknown ends
-    counted takes taken =
-    fails digest now old out items mid rest item new left at out' fault.MarkUnknown ends takes
-    (λ e. cc) taken
-item_stops digest now old out items mid rest item new left at out' count fault.WrongKind ends
-    counted takes taken =
-    fails digest now old out items mid rest item new left at out' fault.WrongKind ends takes
-    (λ e. cc) taken
-item_stops digest now old out items mid rest item new left at out' count fault.UnknownRevision ends
-    counted takes taken =
-    fails digest now old out items mid rest item new left at out' fault.UnknownRevision ends takes
-    (λ e. cc) taken
-item_stops digest now old out items mid rest item new left at out' count fault.Malformed ends
-    counted takes taken =
-    fails digest now old out items mid rest item new left at out' fault.Malformed ends takes
-    (λ e. cc) taken
-item_stops digest now old out items mid rest item new left at out' count fault.ObjectUnknown ends
-    counted takes taken =
-    fails digest now old out items mid rest item new left at out' fault.ObjectUnknown ends takes
-    (λ e. cc) taken
-item_stops digest now old out items mid rest item new left at out' count fault.Ambiguous ends
-    counted takes taken =
-    fails digest now old out items mid rest item new left at out' fault.Ambiguous ends takes
-    (λ e. cc) taken
-item_stops digest now old out items mid rest item new left at out' count fault.SourceMissing ends
-    counted takes taken =
-    fails digest now old out items mid rest item new left at out' fault.SourceMissing ends takes
-    (λ e. cc) taken
-item_stops digest now old out items mid rest item new left at out' count fault.BranchFromItself ends
-    counted takes taken =
-    fails digest now old out items mid rest item new left at out' fault.BranchFromItself ends takes
-    (λ e. cc) taken
-item_stops digest now old out items mid rest item new left at out' count fault.RootNotDirectory ends
-    counted takes taken =
-    fails digest now old out items mid rest item new left at out' fault.RootNotDirectory ends takes
-    (λ e. cc) taken
-item_stops digest now old out items mid rest item new left at out' count fault.NameCollision ends
-    counted takes taken =
-    fails digest now old out items mid rest item new left at out' fault.NameCollision ends takes
-    (λ e. cc) taken
-item_stops digest now old out items mid rest item new left at out' count fault.Limit ends counted
-    takes taken =
-    fails digest now old out items mid rest item new left at out' fault.Limit ends takes
-    (λ e. cc) taken
+item_stops digest now old out items mid rest item new left at out' count e ends counted takes taken =
+    fails digest now old out items mid rest item new left at out' e ends takes (λ memory. cc) taken
 
 -- the bytes cannot be read on
 pub tail_stops : (digest : List ℕ → List ℕ) (now : Running) (old : Tail) (out : List ℕ)
@@ -232,15 +182,6 @@ tail_stops digest now old out items replies mid rest f out' adv printed running 
       refl;
   refused = tail_refused digest mid rest f alike running;
 }
-
-pub ends_at : (digest : List ℕ → List ℕ) (now : Running) (old : Tail) (out : List ℕ)
-    (items : List Item) (replies : List ℕ) (mid : Running)
-    (rest : Tail) (left : Running) (at out' : List ℕ)
-    → Advances digest now old items replies mid rest → at ≡ out ++ replies → out' ≡ at
-    → mid.is_done ≡ false
-    → last_checkpoint left.workspace ≡ last_checkpoint mid.workspace
-    → Ends digest now old out items mid rest left out'
-ends_at = ended
 
 -- all that was whole was carried out
 drained : (b : Bool) (tail : Tail) → (b ≡ false → HasNoItem tail) → IsDrained b tail
@@ -332,18 +273,9 @@ unfed_carries digest now tail piece out lex_fault.Memory new running why = recor
       (sym (append-nil out)) refl running refl;
   counted = refl;
 }
-unfed_carries digest now tail piece out lex_fault.LineTooLong new running (inl e) = cc
-unfed_carries digest now tail piece out lex_fault.LineTooLong new running (inr e) =
-    unfed_fails digest now tail piece out lex_fault.LineTooLong running e
-unfed_carries digest now tail piece out lex_fault.BadData new running (inl e) = cc
-unfed_carries digest now tail piece out lex_fault.BadData new running (inr e) =
-    unfed_fails digest now tail piece out lex_fault.BadData running e
-unfed_carries digest now tail piece out lex_fault.CutOff new running (inl e) = cc
-unfed_carries digest now tail piece out lex_fault.CutOff new running (inr e) =
-    unfed_fails digest now tail piece out lex_fault.CutOff running e
-unfed_carries digest now tail piece out lex_fault.Limit new running (inl e) = cc
-unfed_carries digest now tail piece out lex_fault.Limit new running (inr e) =
-    unfed_fails digest now tail piece out lex_fault.Limit running e
+unfed_carries digest now tail piece out f new running (inl e) = cc
+unfed_carries digest now tail piece out f new running (inr e) =
+    unfed_fails digest now tail piece out f running e
 
 -- a stream that had not read `done`
 feeds_running : (digest : List ℕ → List ℕ) (b : Bool) (now : Running) (old : Tail)

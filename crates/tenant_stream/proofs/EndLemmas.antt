@@ -120,32 +120,8 @@ refuses : (digest : List ℕ → List ℕ) (now : Running) (tail : Tail) (left :
     → EndsAs digest now tail out (Err (stop_of e 0)) (last_checkpoint now.workspace) out
 refuses digest now tail left out out' fault.Memory running ended carried =
     record { running = running; counted = refl; printed = refl; stands = refl }
-refuses digest now tail left out out' (fault.Text t) running ended carried =
-    faults digest now tail left out out' (fault.Text t) running ended (λ e. cc) carried
-refuses digest now tail left out out' fault.DoneMissing running ended carried =
-    faults digest now tail left out out' fault.DoneMissing running ended (λ e. cc) carried
-refuses digest now tail left out out' fault.MarkUnknown running ended carried =
-    faults digest now tail left out out' fault.MarkUnknown running ended (λ e. cc) carried
-refuses digest now tail left out out' fault.WrongKind running ended carried =
-    faults digest now tail left out out' fault.WrongKind running ended (λ e. cc) carried
-refuses digest now tail left out out' fault.UnknownRevision running ended carried =
-    faults digest now tail left out out' fault.UnknownRevision running ended (λ e. cc) carried
-refuses digest now tail left out out' fault.Malformed running ended carried =
-    faults digest now tail left out out' fault.Malformed running ended (λ e. cc) carried
-refuses digest now tail left out out' fault.ObjectUnknown running ended carried =
-    faults digest now tail left out out' fault.ObjectUnknown running ended (λ e. cc) carried
-refuses digest now tail left out out' fault.Ambiguous running ended carried =
-    faults digest now tail left out out' fault.Ambiguous running ended (λ e. cc) carried
-refuses digest now tail left out out' fault.SourceMissing running ended carried =
-    faults digest now tail left out out' fault.SourceMissing running ended (λ e. cc) carried
-refuses digest now tail left out out' fault.BranchFromItself running ended carried =
-    faults digest now tail left out out' fault.BranchFromItself running ended (λ e. cc) carried
-refuses digest now tail left out out' fault.RootNotDirectory running ended carried =
-    faults digest now tail left out out' fault.RootNotDirectory running ended (λ e. cc) carried
-refuses digest now tail left out out' fault.NameCollision running ended carried =
-    faults digest now tail left out out' fault.NameCollision running ended (λ e. cc) carried
-refuses digest now tail left out out' fault.Limit running ended carried =
-    faults digest now tail left out out' fault.Limit running ended (λ e. cc) carried
+refuses digest now tail left out out' e running ended carried =
+    faults digest now tail left out out' e running ended (λ memory. cc) carried
 
 pub ends_refused : (digest : List ℕ → List ℕ) (now : Running) (tail : Tail) (left : Workspace)
     (out at : List ℕ) (e : Fault)

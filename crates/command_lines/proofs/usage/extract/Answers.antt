@@ -1,16 +1,8 @@
-use Rattle.std.proofs.Common.{codes, []}
-use Rattle.clap.specs.Words.{Shape}
-use Rattle.command_lines.specs.Usage.{argument, pool_option, subcommand, taking}
+use Rattle.std.proofs.Common.{codes, [], ◌∷◌}
+use Rattle.command_lines.specs.Usage.{argument, pool_option, subcommand}
 use Rattle.command_lines.proofs.usage.extract.Goals as goal
 
-abbrev bare : Shape
-bare = subcommand (codes "extract") []
-
-abbrev one : Shape
-one = taking bare (argument (codes "tenant"))
-
-abbrev two : Shape
-two = taking one pool_option
-
 pub returns : goal.returns
-returns c = c.with_target.ensures two (c.with_pool-command.ensures one (c.with_tenant-command.ensures bare c.subcommand.ensures))
+returns c =
+    c.with_target.ensures (subcommand (codes "extract") (argument (codes "tenant") ∷ pool_option ∷ []))
+    (c.with_pool-command.ensures (subcommand (codes "extract") (argument (codes "tenant") ∷ [])) (c.with_tenant-command.ensures (subcommand (codes "extract") []) c.subcommand.ensures))

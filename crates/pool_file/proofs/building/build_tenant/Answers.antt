@@ -1,5 +1,4 @@
-use Rattle.std.proofs.Common.{◌≡◌, ◌<◌, ◌++◌, ℕ, List, length, sym, ap, ◌∙◌, subst}
-use Rattle.std.specs.Prelude.{All}
+use Rattle.std.proofs.Common.{◌≡◌, ◌++◌, ℕ, List, length, sym, ap, ◌∙◌, subst}
 use Rattle.git_model.specs.Repository.{Object}
 use Rattle.tenant_tables.specs.Objects.{objects}
 use Rattle.pool_file_format.specs.Shown.{tenant_of}
@@ -8,22 +7,17 @@ use Rattle.pool_file_checks.specs.Saved.{refs_at}
 use Rattle.pool_file_checks.specs.FileRefs.{ref_checks}
 use Rattle.pool_file_checks.specs.Tenants.{name_checks, number_checks}
 use Rattle.pool_file_checks.specs.Whole.{own_checks}
-use Rattle.pool_file_checks.proofs.Passing.{holds, passes_rest}
-use Rattle.pool_file.specs.Building.{objects_at}
+use Rattle.pool_file_checks.proofs.Passing.{passes_rest}
+use Rattle.pool_file.specs.Building.{objects_at, MayLoad}
 use Rattle.pool_file.specs.Tables.{BeginAlike}
-use Rattle.pool_file.proofs.Slots.{numbers_in}
 use Rattle.pool_file.proofs.Built.{counted_by}
+use Rattle.pool_file.proofs.LoadedTables.{may_load_own}
 use Rattle.pool_file.proofs.building.build_tenant.Goals as goal
 
-pub load_table-requires-clause-numbers : goal.load_table-requires-clause-numbers
-load_table-requires-clause-numbers g c =
-    let pool = c.args.pool.now in
-    let slots = c.args.slots.now in
-    let q = c.requires.checked in
-    let h = holds g.N.Naming.digest_of q.version (objects_at pool slots) q.last
-    (tenant_of c.args.tenant.now) q.passes in
-    subst (λ (l : List ℕ). All (λ n. n < length slots) l) (sym c.deref-2.ensures.value)
-    (numbers_in pool slots c.args.tenant.now.numbers.items h.numbers)
+pub load_table-requires-clause-may : goal.load_table-requires-clause-may
+load_table-requires-clause-may g c =
+    subst (λ (l : List ℕ). MayLoad g.N.Naming.digest_of c.args.pool.now c.args.slots.now l) (sym c.deref-2.ensures.value)
+    (may_load_own g.N.Naming.digest_of c.args.pool.now c.args.slots.now (tenant_of c.args.tenant.now) c.requires.live c.requires.room c.requires.checked)
 
 pub load_refs-requires-clause-checked : goal.load_refs-requires-clause-checked
 load_refs-requires-clause-checked g c =
@@ -42,7 +36,7 @@ pub load_refs-requires-clause-counted : goal.load_refs-requires-clause-counted
 load_refs-requires-clause-counted g c =
     counted_by g.N.Naming.digest_of (objects_at c.args.pool.now c.args.slots.now)
     c.deref-2.result.now c.args.tenant.now.numbers.items c.load_table.new.pool
-    c.in_ok-table.table.entries c.in_ok-table.ensures.objects c.deref-2.ensures.value
+    c.in_ok-table.table.entries c.in_ok-table.ensures.loads.objects c.deref-2.ensures.value
 
 pub returns-clause-builds : goal.returns-clause-builds
 returns-clause-builds g c =
@@ -53,20 +47,20 @@ returns-clause-builds g c =
     c.read_tenant_name-name.ensures.name ∙ c.deref.ensures.value in
     let own : objects after c.in_ok-table.table.entries
     ≡ own_objects g.N.Naming.digest_of os t.numbers =
-    c.in_ok-table.ensures.objects ∙ ap (own_objects g.N.Naming.digest_of os) c.deref-2.ensures.value in
+    c.in_ok-table.ensures.loads.objects ∙ ap (own_objects g.N.Naming.digest_of os) c.deref-2.ensures.value in
     let refs = c.in_ok-refs.ensures after
     ∙ ap (λ (l : List Object). refs_at t.name l t.refs t.head) own in
     record {
       built = record {
         name = c.read_tenant_name-name.ensures.well_formed;
-        stands = c.in_ok-table.ensures.stands;
-        committed = c.in_ok-table.ensures.committed;
+        stands = c.in_ok-table.ensures.loads.stands;
+        committed = c.in_ok-table.ensures.loads.committed;
       };
       says = λ i. record {
         tenant = name i;
         repository = record { objects = own i; refs = refs i };
       };
-      others = c.in_ok-table.ensures.others;
+      others = c.in_ok-table.ensures.loads.others;
     }
 
 pub load_table-requires-clause-alike : goal.load_table-requires-clause-alike

@@ -3,7 +3,7 @@ use Rattle.std.proofs.lemmas.Bool.{false≢true}
 use Rattle.std.proofs.lemmas.List.{length-append}
 use Rattle.stream_lex.specs.Looking.{item_of}
 use Rattle.import_session.proofs.LentLemmas.{Keeps-refl, Keeps-then}
-use Rattle.tenant_stream.proofs.CarryLemmas.{Advanced-refl, Advances-read, reads_more, item_stops, tail_stops, ends_at, goes, take_on, took_item, gave_none, gave_fault}
+use Rattle.tenant_stream.proofs.CarryLemmas.{Advanced-refl, Advances-read, reads_more, item_stops, tail_stops, ended, goes, take_on, took_item, gave_none, gave_fault}
 use Rattle.tenant_stream.proofs.CountLemmas.{taken_at_most, left_falls}
 use Rattle.tenant_stream.proofs.RoomLemmas.{room_left}
 use Rattle.tenant_stream.proofs.SoundLemmas.{advances_sound}
@@ -34,7 +34,7 @@ returns-in-Err-take-clause-carries g c sound =
     let so_far = c.items.invariant.advanced sound in
     rw c.stop_of.ensures
     (item_stops _ _ _ _ _ _ _ _ _ _ _ _ _ _
-    (ends_at _ _ _ _ _ _ _ _ _ _ _ so_far.advances so_far.printed
+    (ended _ _ _ _ _ _ _ _ _ _ _ so_far.advances so_far.printed
     c.in-Err-take.ensures.printed (sym c.is_done.ensures ∙ c.if-is_done.false)
     c.in-Err-take.ensures.checkpoint)
     c.items.invariant.counted
