@@ -42,7 +42,7 @@ type server struct {
 }
 
 // runServe serves until SIGTERM or SIGINT: then no connection is taken any more, requests that have begun end, and the pool is saved. A
-// second signal ends the run at once, and the journal has what is not saved.
+// second signal ends the run at once, and the journal has what is not saved. So does a first one while the server starts: it has taken nothing.
 func runServe(l line) error {
 	syscall.Umask(0o077)
 	moreRunners()
@@ -50,24 +50,20 @@ func runServe(l line) error {
 	signal.Ignore(syscall.SIGXFSZ)
 	signals := make(chan os.Signal, 2)
 	signal.Notify(signals, syscall.SIGTERM, syscall.SIGINT)
+	ctx, stop := context.WithCancel(context.Background())
+	defer stop()
+	log, serves := logs.New(os.Stderr, metrics.New()), make(chan struct{})
+	go stopAt(signals, serves, stop, log)
 	s, err := open(l)
 	if err != nil {
 		return err
 	}
-	ctx, stop := context.WithCancel(context.Background())
-	defer stop()
 	ways, err := s.listen()
 	if err != nil {
 		s.store.Close(ctx)
 		return err
 	}
-	go func() {
-		it := <-signals
-		s.site.Log.Printf("%v: no connection is taken any more; what has begun ends, and the pool is saved", it)
-		stop()
-		<-signals
-		os.Exit(0)
-	}()
+	close(serves)
 	failed := s.serve(ctx, stop, ways)
 	if err := s.store.Close(context.Background()); err != nil {
 		s.site.Log.Printf("the pool is not saved: %v; the journal has all of it", err)
@@ -76,6 +72,21 @@ func runServe(l line) error {
 	s.site.Daily.Save()
 	s.site.Log.Printf("the server has ended")
 	return failed
+}
+
+// stopAt ends the run at the first signal where the server does not serve yet, else at the second one.
+func stopAt(signals <-chan os.Signal, serves <-chan struct{}, stop func(), log *logs.Log) {
+	it := <-signals
+	select {
+	case <-serves:
+	default:
+		log.Printf("%v: the server ends before it has started; the pool file and the journal have all that was told", it)
+		os.Exit(0)
+	}
+	log.Printf("%v: no connection is taken any more; what has begun ends, and the pool is saved", it)
+	stop()
+	<-signals
+	os.Exit(0)
 }
 
 // runnersByCore is how many goroutines may run at once, for each core.
@@ -111,7 +122,8 @@ func open(l line) (*server, error) {
 	if err != nil {
 		return nil, err
 	}
-	pool, err := openShards(l, store.Config{Folder: folder, Program: found, ChildMemory: values.ChildMemory,
+	second := func() int64 { return bounds.Get().SecondChild }
+	pool, err := openShards(l, store.Config{Folder: folder, Program: found, ChildMemory: values.ChildMemory, SecondChild: second,
 		Copy: l.flags["--pool-copy"], Stop: stopAtOnce, Tell: log.Printf})
 	if err != nil {
 		return nil, err

@@ -12,12 +12,14 @@ import (
 	"regexp"
 	"strings"
 	"sync"
+	"time"
 
 	"golang.org/x/crypto/bcrypt"
 	"golang.org/x/crypto/ssh"
 
 	"gitpoold/lists"
 	"gitpoold/tenants"
+	"gitpoold/turns"
 )
 
 // Right is what a user may do with a tenant.
@@ -74,7 +76,10 @@ type Access struct {
 	rules    *lists.Followed[*rules]
 	proofs   proofs
 	throttle throttle
-	places   chan struct{}
+	met      met
+	places   *turns.Places
+	// Patience is how long a password waits for its turn.
+	Patience time.Duration
 	// nobody is the hash with which the password of a user that there is not is compared, so that it takes as long.
 	nobody []byte
 }
@@ -88,8 +93,8 @@ func Load(folder string, tell func(format string, values ...any)) (*Access, erro
 		return nil, err
 	}
 	nobody, err := hashOfNobody()
-	return &Access{rules: followed, proofs: newProofs(), throttle: newThrottle(), places: make(chan struct{}, hashesAtOnce),
-		nobody: nobody}, err
+	return &Access{rules: followed, proofs: newProofs(), throttle: newThrottle(), met: met{from: map[string]map[string]bool{}},
+		places: turns.New(hashes), Patience: patience, nobody: nobody}, err
 }
 
 var nobody struct {

@@ -4,6 +4,7 @@ import (
 	"context"
 	"crypto/ed25519"
 	"crypto/rand"
+	"fmt"
 	"os"
 	"path/filepath"
 	"strings"
@@ -28,6 +29,11 @@ func loaded(t *testing.T, folder string) *Access {
 		t.Fatal(err)
 	}
 	return a
+}
+
+// lets tells whether a password is right.
+func lets(a *Access, user, password, address string) bool {
+	return a.Password(background, user, password, address) == nil
 }
 
 func must(t *testing.T, err error) {
@@ -95,16 +101,16 @@ func TestPasswords(t *testing.T) {
 	folder := t.TempDir()
 	a := loaded(t, folder)
 	must(t, SetPassword(folder, "alice", "correct horse"))
-	if !a.Password(background, "alice", "correct horse", "192.0.2.1:1") || a.Password(background, "alice", "wrong horse", "192.0.2.1:1") ||
-		a.Password(background, "bob", "correct horse", "192.0.2.1:1") || a.Password(background, "alice", "", "192.0.2.1:1") {
+	if !lets(a, "alice", "correct horse", "192.0.2.1:1") || lets(a, "alice", "wrong horse", "192.0.2.1:1") ||
+		lets(a, "bob", "correct horse", "192.0.2.1:1") || lets(a, "alice", "", "192.0.2.1:1") {
 		t.Fatal("a password")
 	}
 	must(t, SetPassword(folder, "alice", "another horse"))
-	if a.Password(background, "alice", "correct horse", "192.0.2.1:1") || !a.Password(background, "alice", "another horse", "192.0.2.1:1") {
+	if lets(a, "alice", "correct horse", "192.0.2.1:1") || !lets(a, "alice", "another horse", "192.0.2.1:1") {
 		t.Fatal("the old password holds")
 	}
 	must(t, Revoke(folder, "alice", ""))
-	if a.Password(background, "alice", "another horse", "192.0.2.1:1") {
+	if lets(a, "alice", "another horse", "192.0.2.1:1") {
 		t.Fatal("a revoked password holds")
 	}
 	text, err := os.ReadFile(filepath.Join(folder, "passwords"))
@@ -117,10 +123,10 @@ func TestARightPasswordIsHashedOnce(t *testing.T) {
 	folder := t.TempDir()
 	a := loaded(t, folder)
 	must(t, SetPassword(folder, "alice", "correct horse"))
-	a.Password(background, "alice", "correct horse", "192.0.2.1:1")
+	lets(a, "alice", "correct horse", "192.0.2.1:1")
 	began := time.Now()
 	for i := 0; i < 1000; i++ {
-		if !a.Password(background, "alice", "correct horse", "192.0.2.1:1") {
+		if !lets(a, "alice", "correct horse", "192.0.2.1:1") {
 			t.Fatal(i)
 		}
 	}
@@ -138,7 +144,7 @@ func TestWrongTriesAreSlowed(t *testing.T) {
 	defer stop()
 	tries := 0
 	for ; ctx.Err() == nil; tries++ {
-		a.Password(ctx, "alice", "wrong horse", "192.0.2.1:1")
+		_ = a.Password(ctx, "alice", "wrong horse", "192.0.2.1:1")
 	}
 	if tries > 9 {
 		t.Fatal(tries)
@@ -147,8 +153,58 @@ func TestWrongTriesAreSlowed(t *testing.T) {
 		t.Fatal("after a thousand tries:", got)
 	}
 	began := time.Now()
-	if !a.Password(background, "alice", "correct horse", "198.51.100.7:9") || time.Since(began) > 4*time.Second {
+	if !lets(a, "alice", "correct horse", "198.51.100.7:9") || time.Since(began) > 4*time.Second {
 		t.Fatal("who has the password is kept out from elsewhere")
+	}
+}
+
+// TestStrangersKeepNobodyWaiting has strangers from a thousand networks at the hash: who was let in before is let in at once, another one waits, and
+// is not told that a right password is wrong.
+func TestStrangersKeepNobodyWaiting(t *testing.T) {
+	folder := t.TempDir()
+	a := loaded(t, folder)
+	must(t, SetPassword(folder, "alice", "correct horse"))
+	must(t, a.Password(background, "alice", "correct horse", "192.0.2.1:1"))
+	a.proofs = newProofs()
+	a.Patience = 3 * time.Second
+	ctx, stop := context.WithCancel(background)
+	defer stop()
+	for at := 0; at < 1000; at++ {
+		go func(at int) {
+			if leave, err := a.places.Enter(ctx, strangers, fmt.Sprint(at), "nobody"); err == nil {
+				time.Sleep(50 * time.Millisecond)
+				leave()
+			}
+		}(at)
+	}
+	time.Sleep(100 * time.Millisecond)
+	if err := a.Password(background, "alice", "correct horse", "192.0.2.1:9"); err != nil {
+		t.Error(err)
+	}
+	a.proofs = newProofs()
+	if err := a.Password(background, "alice", "correct horse", "192.0.2.2:1"); err != ErrBusy {
+		t.Error(err)
+	}
+	stop()
+	must(t, a.Password(background, "alice", "correct horse", "192.0.2.2:1"))
+}
+
+func TestNamesOfStrangersAreNotKept(t *testing.T) {
+	a := loaded(t, t.TempDir())
+	long := strings.Repeat("x", 30_000)
+	if err := a.Password(background, long, "a password", "192.0.2.1:1"); err != ErrWrong {
+		t.Fatal(err)
+	}
+	for key := range a.throttle.counts {
+		if len(key) > 100 {
+			t.Fatal(len(key))
+		}
+	}
+	for at := 0; at <= mostMet; at++ {
+		a.met.add("alice", fmt.Sprint(at))
+	}
+	if len(a.met.from["alice"]) != 1 || !a.met.has("alice", fmt.Sprint(mostMet)) {
+		t.Fatal(a.met.from)
 	}
 }
 
@@ -160,8 +216,8 @@ func TestCountsOfTriesAreBounded(t *testing.T) {
 	if len(h.counts) > mostCounts+2 {
 		t.Fatal(len(h.counts))
 	}
-	if network("[2001:db8::1]:5") != network("[2001:db8::2:9]:7") || network("192.0.2.1:5") != "192.0.2.1" {
-		t.Fatal(network("[2001:db8::1]:5"))
+	if Network("[2001:db8::1]:5") != Network("[2001:db8::2:9]:7") || Network("192.0.2.1:5") != "192.0.2.1" {
+		t.Fatal(Network("[2001:db8::1]:5"))
 	}
 }
 

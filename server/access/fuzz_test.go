@@ -59,7 +59,7 @@ func changed(t *testing.T, folder string, before map[string]Right, tenant string
 	must(t, SetPassword(folder, "zoe", "a password"))
 	again, err := Load(folder, func(format string, values ...any) { t.Fatalf(format, values...) })
 	must(t, err)
-	if again.Right("zoe", "z/a") != Write || !again.Password(background, "zoe", "a password", "127.0.0.1:1") {
+	if again.Right("zoe", "z/a") != Write || !lets(again, "zoe", "a password", "127.0.0.1:1") {
 		t.Fatal("zoe was not let in")
 	}
 	must(t, Revoke(folder, "zoe", ""))
@@ -69,7 +69,7 @@ func changed(t *testing.T, folder string, before map[string]Right, tenant string
 		}
 	}
 	everyone := again.Right("", "z/a")
-	if again.Right("zoe", "z/a") != everyone || again.Password(background, "zoe", "a password", "127.0.0.2:1") {
+	if again.Right("zoe", "z/a") != everyone || lets(again, "zoe", "a password", "127.0.0.2:1") {
 		t.Fatal("zoe is still let in")
 	}
 }

@@ -5,16 +5,29 @@ import (
 	"crypto/hmac"
 	"crypto/rand"
 	"crypto/sha256"
+	"errors"
 	"net"
 	"sync"
 	"time"
 
 	"golang.org/x/crypto/bcrypt"
+
+	"gitpoold/turns"
 )
 
+// The kinds of those who wait for a hash: users who call from where they were let in before, and all others.
 const (
-	// hashesAtOnce bounds how many passwords are hashed at once, so that tries take no more than two processors.
-	hashesAtOnce = 2
+	acquainted = turns.First
+	strangers  = turns.Second
+)
+
+// hashes bounds how many passwords are hashed at once, so that tries take no more than two processors. A hash takes little time, so those of one kind
+// may have both places while nobody of the other waits.
+var hashes = turns.Limits{Places: 2, OfKind: [2]int{2, 2}, OfOneOfIt: [2]int{1, 1}}
+
+const (
+	// patience is how long a password waits for its turn.
+	patience = 20 * time.Second
 	// proofLasts is how long a password that was right is not hashed again.
 	proofLasts = 5 * time.Minute
 	// longestPassword is what bcrypt looks at.
@@ -24,42 +37,83 @@ const (
 // hashCost is bcrypt's: a hash takes about a twentieth of a second.
 var hashCost = 10
 
-// Password tells whether this is the password of a user who calls from an address. Tries that follow wrong ones wait first: those from
-// one address up to ten seconds, those for one user from several addresses up to one. It is false where the context ends.
-func (a *Access) Password(ctx context.Context, user, password, address string) bool {
+// Why a user is not let in.
+var (
+	ErrWrong = errors.New("the user or the password is wrong")
+	ErrBusy  = errors.New("the server looks at as many passwords as it can; try again")
+)
+
+// Password is nil where this is the password of a user who calls from an address, else ErrWrong. Tries that follow wrong ones wait first: those
+// from one address up to ten seconds, those for one user from several addresses up to one. Then each waits for its turn, and is ErrBusy where
+// that does not come within Patience, or the context ends.
+func (a *Access) Password(ctx context.Context, user, password, address string) error {
 	hash, known := a.rules.Get().passwords[user]
 	if known && a.proofs.has(user, hash, password) {
-		return true
+		return nil
 	}
-	from, whom := "from "+network(address), "for "+user
-	if !a.throttle.wait(ctx, from, whom) || !a.enter(ctx) {
-		return false
+	if !ValidUser(user) {
+		// What is counted by users is not to grow with what clients call themselves.
+		user = ""
 	}
-	defer func() { <-a.places }()
+	from := Network(address)
+	if !a.throttle.wait(ctx, "from "+from, "for "+user) {
+		return ErrBusy
+	}
+	leave, err := a.enter(ctx, user, from)
+	if err != nil {
+		return ErrBusy
+	}
+	defer leave()
 	compared := []byte(hash)
 	if !known {
 		compared = a.nobody
 	}
 	right := bcrypt.CompareHashAndPassword(compared, []byte(password)) == nil && known && len(password) <= longestPassword
-	if right {
-		a.proofs.add(user, hash, password)
-		return true
+	if !right {
+		a.throttle.note("from "+from, "for "+user)
+		return ErrWrong
 	}
-	a.throttle.note(from, whom)
-	return false
+	a.proofs.add(user, hash, password)
+	a.met.add(user, from)
+	return nil
 }
 
-func (a *Access) enter(ctx context.Context) bool {
-	select {
-	case a.places <- struct{}{}:
-		return true
-	case <-ctx.Done():
-		return false
+// enter waits for a turn. Networks take turns, and the users of one among themselves; users who were let in from there before take turns apart.
+func (a *Access) enter(ctx context.Context, user, from string) (leave func(), err error) {
+	ctx, stop := context.WithTimeout(ctx, a.Patience)
+	defer stop()
+	if a.met.has(user, from) {
+		return a.places.Enter(ctx, acquainted, user, from)
 	}
+	return a.places.Enter(ctx, strangers, from, user)
 }
 
-// network is what tries are counted by: an address of IPv4, or the /64 of one of IPv6.
-func network(address string) string {
+// met remembers from where users were let in.
+type met struct {
+	mutex sync.Mutex
+	from  map[string]map[string]bool
+}
+
+// mostMet is how many networks are remembered of one user. Beyond it all of them are new again.
+const mostMet = 64
+
+func (m *met) has(user, from string) bool {
+	m.mutex.Lock()
+	defer m.mutex.Unlock()
+	return m.from[user][from]
+}
+
+func (m *met) add(user, from string) {
+	m.mutex.Lock()
+	defer m.mutex.Unlock()
+	if m.from[user] == nil || len(m.from[user]) == mostMet {
+		m.from[user] = map[string]bool{}
+	}
+	m.from[user][from] = true
+}
+
+// Network is what addresses are counted by: an address of IPv4, or the /64 of one of IPv6.
+func Network(address string) string {
 	host, _, err := net.SplitHostPort(address)
 	if err != nil {
 		host = address

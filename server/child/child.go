@@ -9,6 +9,7 @@ import (
 	"bufio"
 	"context"
 	"errors"
+	"fmt"
 	"io"
 	"os"
 	"os/exec"
@@ -50,6 +51,8 @@ type Process struct {
 	bulk    chan struct{}
 	closing chan struct{}
 	once    sync.Once
+	// sending is closed once nothing is sent any more.
+	sending chan struct{}
 	gone    chan struct{}
 	result  error
 
@@ -136,10 +139,9 @@ func widen(end *os.File) {
 
 func follow(command *exec.Cmd, in, out *os.File) *Process {
 	p := &Process{command: command, in: in, out: out, queue: make(chan *Batch), sent: make(chan *Batch, queueSteps),
-		bulk: make(chan struct{}, bulkAtOnce), closing: make(chan struct{}), gone: make(chan struct{})}
-	sending := make(chan struct{})
-	go p.send(sending)
-	go p.receive(sending)
+		bulk: make(chan struct{}, bulkAtOnce), closing: make(chan struct{}), sending: make(chan struct{}), gone: make(chan struct{})}
+	go p.send()
+	go p.receive()
 	return p
 }
 
@@ -164,6 +166,52 @@ func (p *Process) Close() error {
 func (p *Process) Kill() {
 	_ = p.command.Process.Kill()
 	<-p.gone
+}
+
+// Dismiss takes no steps any more, waits for at most so long until what was sent is answered, and ends the child without a save.
+func (p *Process) Dismiss(within time.Duration) {
+	p.once.Do(func() { close(p.closing) })
+	late := time.NewTimer(within)
+	defer late.Stop()
+	select {
+	case <-p.sending:
+		p.settle(late.C)
+	case <-late.C:
+	}
+	p.Kill()
+}
+
+// settle waits until what was sent is answered, or it is late. Nothing more is sent.
+func (p *Process) settle(late <-chan time.Time) {
+	for p.isAwaited() {
+		select {
+		case <-late:
+			return
+		case <-time.After(time.Millisecond):
+		}
+	}
+}
+
+func (p *Process) isAwaited() bool {
+	p.mutex.Lock()
+	defer p.mutex.Unlock()
+	return p.waiting > 0
+}
+
+// Resident is how much memory the child has, 0 where that is not known.
+func (p *Process) Resident() int64 { return Resident(p.Pid()) }
+
+// Resident is how much memory a process has, 0 where that is not known.
+func Resident(pid int) int64 {
+	text, err := os.ReadFile(fmt.Sprintf("/proc/%d/statm", pid))
+	var size, resident int64
+	if err != nil {
+		return 0
+	}
+	if _, err := fmt.Sscan(string(text), &size, &resident); err != nil {
+		return 0
+	}
+	return resident * int64(os.Getpagesize())
 }
 
 // Send sends steps, and gives the batch to which their answers come. It waits while the child has no room for more, and gives the
@@ -270,8 +318,8 @@ func (p *Process) finish(b *Batch, err error) {
 }
 
 // send writes batches to the child until it is told to close, or until the child is gone.
-func (p *Process) send(done chan<- struct{}) {
-	defer close(done)
+func (p *Process) send() {
+	defer close(p.sending)
 	defer p.in.Close()
 	for {
 		select {
@@ -314,7 +362,7 @@ func (p *Process) passOn(text []byte, b *Batch) []byte {
 }
 
 // receive gives each batch its answers until the child's output ends, and then tells everyone who still waits.
-func (p *Process) receive(sending <-chan struct{}) {
+func (p *Process) receive() {
 	from := bufio.NewReaderSize(p.out, 1<<18)
 	var err error
 	for err == nil {
@@ -327,7 +375,7 @@ func (p *Process) receive(sending <-chan struct{}) {
 		p.finish(b, gone(err))
 	}
 	p.once.Do(func() { close(p.closing) })
-	p.end(err, sending)
+	p.end(err)
 }
 
 func gone(err error) error {
@@ -358,7 +406,7 @@ func receiveBatch(from *bufio.Reader, b *Batch) error {
 }
 
 // end waits for the child, and tells everyone whose answer will not come.
-func (p *Process) end(reading error, sending <-chan struct{}) {
+func (p *Process) end(reading error) {
 	if reading != io.EOF {
 		_ = p.command.Process.Kill()
 	}
@@ -367,7 +415,7 @@ func (p *Process) end(reading error, sending <-chan struct{}) {
 		select {
 		case b := <-p.sent:
 			p.finish(b, ErrGone)
-		case <-sending:
+		case <-p.sending:
 			open = false
 		}
 	}

@@ -135,6 +135,51 @@ func TestAKilledChildTellsEveryone(t *testing.T) {
 	}
 }
 
+// TestADismissedChildAnswersFirst dismisses a child that is asked by many: each is answered, or told that it has to ask elsewhere before it was sent.
+func TestADismissedChildAnswersFirst(t *testing.T) {
+	p := started(t, 1<<30)
+	slowly, err := p.Send(background, Short, frames.Step{Kind: frames.Ask, Tenant: "a", Body: []byte("slow")})
+	if err != nil {
+		t.Fatal(err)
+	}
+	var all sync.WaitGroup
+	for c := 0; c < 16; c++ {
+		all.Add(1)
+		go func(c int) {
+			defer all.Done()
+			for {
+				batch, err := p.Send(background, Class(c%2), frames.Step{Kind: frames.Ask, Tenant: "a"})
+				if err != nil {
+					return
+				}
+				if _, err := batch.Wait(background); err != nil {
+					t.Error("what was sent is not answered:", err)
+				}
+			}
+		}(c)
+	}
+	p.Dismiss(time.Minute)
+	all.Wait()
+	if answers, err := slowly.Wait(background); err != nil || string(answers[0].Reply) != "a:slow" {
+		t.Fatal(answers, err)
+	}
+	<-p.Gone()
+}
+
+// TestADismissedChildThatIsSilent has one that does not answer: it is ended all the same.
+func TestADismissedChildThatIsSilent(t *testing.T) {
+	p := started(t, 1<<30)
+	stop, err := p.Send(background, Short, frames.Step{Kind: frames.Ask, Tenant: "a", Body: []byte("stop")})
+	if err != nil {
+		t.Fatal(err)
+	}
+	began := time.Now()
+	p.Dismiss(50 * time.Millisecond)
+	if _, err := stop.Wait(background); !errors.Is(err, ErrGone) || time.Since(began) > 20*time.Second {
+		t.Fatal(err, time.Since(began))
+	}
+}
+
 func TestAnAskerMayLeave(t *testing.T) {
 	p := started(t, 1<<30)
 	stop, err := p.Send(background, Short, frames.Step{Kind: frames.Ask, Tenant: "a", Body: []byte("stop")})

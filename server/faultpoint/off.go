@@ -10,5 +10,8 @@ const Enabled = false
 // SetChild tells which process is the child.
 func SetChild(pid int) {}
 
+// SetSecond tells which process is the second child, 0 for none.
+func SetSecond(pid int) {}
+
 // Here is a fault point.
 func Here(name string) {}

@@ -2,7 +2,7 @@
 
 // Package faultpoint marks the places at which a test ends the server, its child or both.
 //
-// GITPOOLD_FAULT is WHOM:N, where WHOM is server, child or both: the N-th fault point that the server comes to, counted from 1, kills
+// GITPOOLD_FAULT is WHOM:N, where WHOM is server, child, both, or second for the second child, if there is one: the N-th fault point that the server comes to, counted from 1, kills
 // it by signal 9. So does the first one of a name, where that stands in the place of N. The file GITPOOLD_FAULT_LOG gets the name of each fault point before anything is killed there.
 package faultpoint
 
@@ -21,6 +21,7 @@ const Enabled = true
 var (
 	mutex  sync.Mutex
 	child  int
+	second int
 	count  int
 	isOver bool
 )
@@ -30,6 +31,13 @@ func SetChild(pid int) {
 	mutex.Lock()
 	defer mutex.Unlock()
 	child = pid
+}
+
+// SetSecond tells which process is the second child, 0 for none.
+func SetSecond(pid int) {
+	mutex.Lock()
+	defer mutex.Unlock()
+	second = pid
 }
 
 // Here is a fault point.
@@ -43,10 +51,13 @@ func Here(name string) {
 		return
 	}
 	isOver = true
-	if whom != "server" && child > 0 {
+	if (whom == "child" || whom == "both") && child > 0 {
 		_ = syscall.Kill(child, syscall.SIGKILL)
 	}
-	if whom != "child" {
+	if whom == "second" && second > 0 {
+		_ = syscall.Kill(second, syscall.SIGKILL)
+	}
+	if whom == "server" || whom == "both" {
 		_ = syscall.Kill(os.Getpid(), syscall.SIGKILL)
 		select {}
 	}

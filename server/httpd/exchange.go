@@ -10,6 +10,7 @@ import (
 	"time"
 
 	"gitpoold/daily"
+	"gitpoold/limits"
 	"gitpoold/logs"
 	"gitpoold/pktline"
 	"gitpoold/services"
@@ -103,8 +104,16 @@ func (e *exchange) answer(ctx context.Context, t tenants.Tenant) {
 		e.fail(http.StatusBadRequest, "the body of this request is not what its Content-Encoding says")
 		return
 	}
+	held := e.Limits.Lines(e.record.User, e.record.Address)
+	defer held.Free()
 	if e.name == services.UploadPack {
-		body, err = whole(body)
+		body, err = whole(&holding{body, held})
+	}
+	if err == limits.ErrLines {
+		e.record.Err = err
+		e.w.Header().Set("Retry-After", "1")
+		e.fail(http.StatusTooManyRequests, err.Error())
+		return
 	}
 	if err != nil {
 		e.record.Err = err
@@ -123,6 +132,20 @@ func (e *exchange) answer(ctx context.Context, t tenants.Tenant) {
 func whole(body io.Reader) (io.Reader, error) {
 	request, err := io.ReadAll(body)
 	return bytes.NewReader(request), err
+}
+
+// holding counts what is read of a body as long as it is held.
+type holding struct {
+	from io.Reader
+	held *limits.Held
+}
+
+func (h *holding) Read(into []byte) (int, error) {
+	n, err := h.from.Read(into)
+	if full := h.held.Hold(int64(n)); full != nil {
+		err = full
+	}
+	return n, err
 }
 
 // mostOfFetch is how many bytes the request of a fetch may have, which is held in memory.

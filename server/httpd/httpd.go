@@ -186,12 +186,17 @@ func (e *exchange) with(method string, answer func(*exchange, context.Context, t
 
 // open finds the tenant, if the user has the right to it. Else it has answered.
 func (e *exchange) open() (t tenants.Tenant, ok bool) {
-	user, isRight := e.login()
-	if !isRight {
-		e.askPassword("the user or the password is wrong")
+	user, err := e.login()
+	if err == access.ErrBusy {
+		e.w.Header().Set("Retry-After", busyFor)
+		e.fail(http.StatusServiceUnavailable, err.Error())
 		return t, false
 	}
-	t, err := e.Open(user, e.record.Tenant, services.Right(e.name))
+	if err != nil {
+		e.askPassword(err.Error())
+		return t, false
+	}
+	t, err = e.Open(user, e.record.Tenant, services.Right(e.name))
 	var blocked *access.Blocked
 	switch {
 	case err == nil:
@@ -208,14 +213,19 @@ func (e *exchange) open() (t tenants.Tenant, ok bool) {
 	return t, false
 }
 
-// login tells who the user is, "" for a visitor without a password, and whether the password is right.
-func (e *exchange) login() (user string, isRight bool) {
+// busyFor is after how many seconds it is worth trying again where too many wait.
+const busyFor = "10"
+
+// login tells who the user is, "" for a visitor without a password. It is access.ErrWrong or access.ErrBusy where the user is not let in.
+func (e *exchange) login() (user string, err error) {
 	user, password, hasUser := e.r.BasicAuth()
-	if hasUser && user != "" && !e.Access.Password(e.r.Context(), user, password, e.record.Address) {
-		return user, false
+	if hasUser && user != "" {
+		err = e.Access.Password(e.r.Context(), user, password, e.record.Address)
 	}
-	e.record.User = user
-	return user, true
+	if err == nil {
+		e.record.User = user
+	}
+	return user, err
 }
 
 // challenge asks for a password.

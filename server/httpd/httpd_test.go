@@ -5,11 +5,14 @@ import (
 	"fmt"
 	"io"
 	"net"
+	"net/http"
+	"net/http/httptest"
 	"path/filepath"
 	"runtime"
 	"testing"
 	"time"
 
+	"gitpoold/access"
 	"gitpoold/limits"
 	"gitpoold/logs"
 	"gitpoold/metrics"
@@ -59,6 +62,32 @@ func TestARefusedRequestTakesNoLongerThanAnother(t *testing.T) {
 			t.Fatal("the connection is open still")
 		case <-time.After(20 * time.Millisecond):
 			_, _ = c.Write([]byte("x"))
+		}
+	}
+}
+
+// TestPasswordsThatWaitTooLong has no time for any password: pages and git are told to come again, and nobody that a password is wrong.
+func TestPasswordsThatWaitTooLong(t *testing.T) {
+	folder := t.TempDir()
+	if err := access.SetPassword(folder, "alice", "correct horse"); err != nil {
+		t.Fatal(err)
+	}
+	users, err := access.Load(folder, t.Logf)
+	if err != nil {
+		t.Fatal(err)
+	}
+	l, err := limits.Load(folder, t.Logf)
+	if err != nil {
+		t.Fatal(err)
+	}
+	users.Patience = -1
+	s := &server{&site.Site{Limits: l, Access: users, Log: logs.New(io.Discard, metrics.New())}}
+	for _, path := range []string{"/acme/site", "/", "/acme/site.git/info/refs?service=git-upload-pack"} {
+		w, r := httptest.NewRecorder(), httptest.NewRequest("GET", path, nil)
+		r.SetBasicAuth("alice", "correct horse")
+		s.ServeHTTP(w, r)
+		if w.Code != http.StatusServiceUnavailable || w.Header().Get("Retry-After") != busyFor || w.Header().Get("WWW-Authenticate") != "" {
+			t.Errorf("%s: %d %v", path, w.Code, w.Header())
 		}
 	}
 }

@@ -25,7 +25,7 @@ func (e *exchange) page(place pages.Place) {
 		return
 	}
 	e.finish()
-	v := pages.Visit{Place: place, Query: e.r.URL.Query(), Now: time.Now(), Markdown: e.Markdown}
+	v := pages.Visit{Place: place, Query: e.r.URL.Query(), Now: time.Now(), Markdown: e.Markdown, Network: access.Network(e.record.Address)}
 	unescaped, _ := url.PathUnescape(place.URL())
 	switch {
 	case place.Kind == pages.Style || place.Kind == pages.Icon:
@@ -37,12 +37,16 @@ func (e *exchange) page(place pages.Place) {
 		return
 	}
 	e.record.Tenant = place.Tenant
-	user, isRight := e.login()
-	if v.User = user; !isRight {
-		v.User = ""
+	user, err := e.login()
+	if err == access.ErrBusy {
+		e.send(v.Refusal(http.StatusServiceUnavailable, "The server is busy", "Please try again in a moment."))
+		return
+	}
+	if err != nil {
 		e.askSignIn(v, "The user or the password is wrong.")
 		return
 	}
+	v.User = user
 	leave, err := e.Limits.Enter(user, e.record.Address)
 	if err != nil {
 		e.w.Header().Set("Retry-After", "1")
@@ -60,7 +64,7 @@ func (e *exchange) visit(v pages.Visit) {
 			e.signIn(v, to[0])
 			return
 		}
-		v.Listed = e.listed(v.User)
+		v.Listed = func() []pages.Listed { return e.listed(v.User) }
 		e.send(v.Answer(e.r.Context()))
 		return
 	}
@@ -169,6 +173,9 @@ func (e *exchange) send(a pages.Answer) {
 	}
 	if a.Name != "" {
 		h.Set("Content-Disposition", a.Name)
+	}
+	if a.Status == http.StatusServiceUnavailable {
+		h.Set("Retry-After", busyFor)
 	}
 	e.record.Err = a.Err
 	switch {

@@ -93,19 +93,26 @@ func (f *Following) tryOpen(pool Digest, kept place) error {
 		return err
 	}
 	_ = announce(conn, f.options.Address)
-	w := walk{address: f.options.Address, kept: kept}
-	if err = w.all(conn, 1, 0); err == nil {
-		err = w.check()
-	}
-	if err == nil {
-		_, err = w.baseFor(pool)
-	}
+	err = unlessTrimmed(conn, f.options.Address, func() error { return f.readThrough(conn, pool, kept) })
 	if err != nil {
 		conn.Close()
 		return err
 	}
-	f.conn, f.walk = conn, w
+	f.conn = conn
 	return nil
+}
+
+// readThrough reads the log from its first record on.
+func (f *Following) readThrough(conn redis.Conn, pool Digest, kept place) error {
+	f.walk = walk{address: f.options.Address, kept: kept}
+	err := f.walk.all(conn, 1, 0)
+	if err == nil {
+		err = f.walk.check()
+	}
+	if err == nil {
+		_, err = f.walk.baseFor(pool)
+	}
+	return err
 }
 
 // Entries are what a read of the log brought behind a record. They are taken one after another.
@@ -373,7 +380,7 @@ func (f *Following) asLeader(pool Digest, silence time.Duration) (r *Redis, at m
 	if f.isClosed() || silence > 0 && (f.sight.silent < silence || f.sight.last != at.number) {
 		return nil, at, ErrNotAtEnd
 	}
-	base, err := f.walk.baseFor(pool)
+	base, err := f.walk.baseToWrite(pool)
 	r = &Redis{options: f.options, place: f.place, segments: f.walk.segments, base: base, hasSteps: f.walk.hasSteps,
 		wake: make(chan struct{}, 1), closing: make(chan struct{}), ended: make(chan struct{})}
 	r.changed = sync.NewCond(&r.mutex)

@@ -41,14 +41,36 @@ func (f *Following) Records(pool Digest, use func(Record) error) error {
 	if r := f.leader.Load(); r != nil {
 		return r.Records(pool, use)
 	}
-	f.mutex.Lock()
-	end, all := f.walk.end, append([]segment(nil), f.walk.segments...)
-	f.mutex.Unlock()
-	err := f.options.records(all, end, pool, use)
-	if first, isKnown := f.firstOf(); isEnd(err) && isKnown && first > all[0].first {
+	err := readOnce(f.Reader(pool, use))
+	if first, isKnown := f.firstOf(); isEnd(err) && isKnown && first > f.first() {
 		return f.tooOld("the log no longer has the records before record %d", first)
 	}
 	return err
+}
+
+// Reader gives what calls `use` with the same records, and then with those that are taken.
+func (f *Following) Reader(pool Digest, use func(Record) error) (Reader, error) {
+	if r := f.leader.Load(); r != nil {
+		return r.Reader(pool, use)
+	}
+	f.mutex.Lock()
+	all := append([]segment(nil), f.walk.segments...)
+	f.mutex.Unlock()
+	return f.options.reader(all, f.taken, pool, use)
+}
+
+// taken is the end of what was taken of the log.
+func (f *Following) taken() (mark, error) {
+	f.mutex.Lock()
+	defer f.mutex.Unlock()
+	return f.walk.end, nil
+}
+
+// first is the number of the first record that this server may need.
+func (f *Following) first() uint64 {
+	f.mutex.Lock()
+	defer f.mutex.Unlock()
+	return f.walk.segments[0].first
 }
 
 // firstOf gives the number of the first record that the log has.
@@ -58,11 +80,8 @@ func (f *Following) firstOf() (number uint64, isKnown bool) {
 		return 0, false
 	}
 	defer conn.Close()
-	entries := reading{conn: conn, address: f.options.Address, from: 1}
-	if record, err := entries.next(); err == nil {
-		return readHead(record).number, true
-	}
-	return 0, false
+	number, err = firstOf(conn, f.options.Address)
+	return number, err == nil && number > 0
 }
 
 // Resume lets the journal of a server that leads go on.

@@ -220,9 +220,11 @@ func (f *Following) mayComeAgain() bool {
 func (a Address) alive() string     { return a.Beside("alive").key }
 func (a Address) followers() string { return a.Beside("followers").key }
 
+// The announcement outlives a clock of Redis that jumps by a day: a log without it does not get the files of tenants that are moved, and who follows it
+// ends at the next save.
 const (
 	announceEvery = time.Hour
-	announcedFor  = 24 * time.Hour
+	announcedFor  = 7 * 24 * time.Hour
 )
 
 // announce lets the server that writes the log know that there are servers that follow it: then it keeps more for those that are behind.

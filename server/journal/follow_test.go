@@ -166,6 +166,39 @@ func TestATrimKeepsSavesForFollowers(t *testing.T) {
 	savesAndDrops(t, server, j, pools[0], 1)
 }
 
+// TestFollowersOutliveAClockThatJumps has a Redis whose clock jumps by a day, so that what is kept there for a time ends a day earlier: the log is
+// still one that is followed.
+func TestFollowersOutliveAClockThatJumps(t *testing.T) {
+	t.Parallel()
+	server := redistest.Start(t)
+	o := options(t, server)
+	j := created(t, o)
+	f := follows(t, o)
+	left := server.Do("PTTL", "site/followers").(int64)
+	server.Do("PEXPIRE", "site/followers", left-(24*time.Hour).Milliseconds())
+	if !j.IsFollowed() {
+		t.Fatal("the log is followed no more")
+	}
+	f.has(t, j)
+}
+
+// TestALogThatIsAwayMayBeFollowed asks whether a log is followed while its Redis is there, which says that it is not, and while that is away.
+func TestALogThatIsAwayMayBeFollowed(t *testing.T) {
+	t.Parallel()
+	server := redistest.Start(t)
+	j := created(t, options(t, server))
+	if j.IsFollowed() {
+		t.Fatal("a log that nobody follows is followed")
+	}
+	server.Kill()
+	for looks := 0; looks < 3; looks++ {
+		if !j.IsFollowed() {
+			t.Fatal("nobody follows a log of which Redis says nothing")
+		}
+		time.Sleep(lookEvery)
+	}
+}
+
 // TestHowMuchIsKept has segments of which only the last ones are kept, because they are large, or many.
 func TestHowMuchIsKept(t *testing.T) {
 	large := segment{size: keptBytes - 10}

@@ -33,7 +33,7 @@ var (
 )
 
 // Journal is the journal of a pool. Append and Sync may be called by many goroutines at once; Begin, Drop, Records and Resume by one that
-// lets no other in meanwhile.
+// lets no other in meanwhile. Others may append while a Reader reads.
 type Journal interface {
 	// Append writes steps behind one another, and gives the number of the last one. They last from Sync on. On an error nothing is
 	// written.
@@ -49,6 +49,8 @@ type Journal interface {
 	// Records calls `use` with each record that a pool file has not, in order: those of the streams that were open when it was saved,
 	// from their Opens on; and all that came since.
 	Records(pool Digest, use func(Record) error) error
+	// Reader gives what calls `use` with the same records, and then with those that come.
+	Reader(pool Digest, use func(Record) error) (Reader, error)
 	// Resume lets a journal that lost records take them again: a new child is about to carry out what it has.
 	Resume()
 	// Losses is how often records were taken back that Append had taken. A stream of which there were records then has to be refused.
@@ -65,4 +67,20 @@ type Journal interface {
 	IsHealedBySave() bool
 	// Close closes the journal.
 	Close() error
+}
+
+// Reader reads a journal while it grows. It may be used until the next Begin.
+type Reader interface {
+	// Read reads all that the journal has now and that was not read before.
+	Read() error
+	Close()
+}
+
+// readOnce reads what a journal has now.
+func readOnce(from Reader, err error) error {
+	if err != nil {
+		return err
+	}
+	defer from.Close()
+	return from.Read()
 }

@@ -419,6 +419,72 @@ func TestLeftoversAreRemoved(t *testing.T) {
 	}
 }
 
+// readsOn asks that a reader of a journal is told what came, once each, also while others append.
+func readsOn(t *testing.T, j Journal) {
+	t.Helper()
+	appendAll(t, j, 0, 3)
+	var read []string
+	reader, err := j.Reader(pools[0], func(r Record) error {
+		read = append(read, string(r.Step.Body))
+		return nil
+	})
+	if err != nil {
+		t.Fatal(err)
+	}
+	defer reader.Close()
+	for turn := 0; turn < 2; turn++ {
+		if err := reader.Read(); err != nil || fmt.Sprint(read) != "[0 1 2]" {
+			t.Fatal(read, err)
+		}
+	}
+	done := make(chan struct{})
+	go func() {
+		defer close(done)
+		for i := 3; i < 300; i++ {
+			if err := append1(j, i); err != nil {
+				t.Error(err)
+			}
+		}
+	}()
+	for isOver := false; !isOver; {
+		select {
+		case <-done:
+			isOver = true
+		default:
+		}
+		if err := reader.Read(); err != nil {
+			t.Fatal(err)
+		}
+	}
+	for i, body := range read {
+		if len(read) != 300 || body != fmt.Sprint(i) {
+			t.Fatalf("record %d of %d is %s", i, len(read), body)
+		}
+	}
+}
+
+func TestAReaderReadsOn(t *testing.T) { readsOn(t, opened(t, t.TempDir(), pools[0])) }
+
+// TestAReaderOfRecordsThatAreTakenBack has a sync that fails behind what was read.
+func TestAReaderOfRecordsThatAreTakenBack(t *testing.T) {
+	j := opened(t, t.TempDir(), pools[0])
+	if _, err := j.Append(numbered(0)); err != nil {
+		t.Fatal(err)
+	}
+	reader, err := j.Reader(pools[0], func(Record) error { return nil })
+	if err == nil {
+		err = reader.Read()
+	}
+	if err != nil {
+		t.Fatal(err)
+	}
+	defer reader.Close()
+	j.fail(errors.New("the disk failed"))
+	if err := reader.Read(); err != ErrBroken {
+		t.Fatal(err)
+	}
+}
+
 func FuzzSegment(f *testing.F) {
 	folder := f.TempDir()
 	j, _ := Open(folder, pools[0], quiet)

@@ -31,6 +31,9 @@ const (
 	Settled frames.Kind = 37
 	// Brought has a part of the pool file of a tenant that comes from another shard, for servers that follow the log.
 	Brought frames.Kind = 38
+	// Merged says that the pool file which its segment begins with is in its place, and that it has tenants that came from another shard. No step
+	// tells what these have. So only a server that follows the log, and merges them too, comes here from an older pool file.
+	Merged frames.Kind = 39
 )
 
 // A record is a head, a frame, and a chain: the length of the frame (4 bytes), the record's number (8), and the CRC-32C of both (4);

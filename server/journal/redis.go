@@ -177,18 +177,23 @@ func (r *Redis) tryTakeOver(pool Digest, kept place) error {
 	if err != nil {
 		return err
 	}
-	w := walk{address: r.options.Address, kept: kept}
-	err = r.readAndBegin(conn, &w, pool)
-	// A server that has the log still may append to it meanwhile.
-	for turn := 0; turn < mostTurns && isOther(err); turn++ {
-		err = r.readAndBegin(conn, &w, pool)
-	}
+	err = unlessTrimmed(conn, r.options.Address, func() error { return r.readThrough(conn, pool, kept) })
 	if err != nil {
 		conn.Close()
 		return err
 	}
 	r.conn, r.counts.Connections, r.counts.IsAnswering = conn, 1, true
 	return nil
+}
+
+// readThrough reads the log from its first record on, and takes it over. A server that has the log still may append to it meanwhile.
+func (r *Redis) readThrough(conn redis.Conn, pool Digest, kept place) error {
+	w := walk{address: r.options.Address, kept: kept}
+	err := r.readAndBegin(conn, &w, pool)
+	for turn := 0; turn < mostTurns && isOther(err); turn++ {
+		err = r.readAndBegin(conn, &w, pool)
+	}
+	return err
 }
 
 // mostTurns is how often a start reads on where another server appended to the log in between.
@@ -207,7 +212,7 @@ func (r *Redis) readAndBegin(conn redis.Conn, w *walk, pool Digest) error {
 	if err := w.check(); err != nil {
 		return err
 	}
-	base, err := w.baseFor(pool)
+	base, err := w.baseToWrite(pool)
 	if err != nil {
 		return err
 	}
@@ -338,15 +343,15 @@ func (r *Redis) Drop() error {
 	return r.place.file.Sync()
 }
 
-// IsFollowed tells whether other servers follow the log.
+// IsFollowed tells whether other servers follow the log. They may where Redis does not say.
 func (r *Redis) IsFollowed() bool {
 	r.line.Lock()
 	defer r.line.Unlock()
 	if r.conn == nil {
-		return false
+		return true
 	}
 	found, err := redis.Bool(r.conn.Do("EXISTS", r.options.Address.followers()))
-	return err == nil && found
+	return err != nil || found
 }
 
 // A log that servers follow keeps what came since the save before the last one, and up to mostKept saves if these have no more than keptBytes.

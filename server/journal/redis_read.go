@@ -99,6 +99,38 @@ func headOf(record []byte) head {
 	return readHead(record)
 }
 
+// firstOf gives the number of the first record that a log has, or 0.
+func firstOf(conn redis.Conn, address Address) (uint64, error) {
+	entries := reading{conn: conn, address: address, from: 1}
+	record, err := entries.next()
+	if err == io.EOF {
+		return 0, nil
+	}
+	if err != nil {
+		return 0, err
+	}
+	return readHead(record).number, nil
+}
+
+// unlessTrimmed reads a log, and does so again where that finds it bad and the server that writes it has removed records meanwhile, after a
+// save: then those that were missing are none that got lost.
+func unlessTrimmed(conn redis.Conn, address Address, read func() error) error {
+	for {
+		before, err := firstOf(conn, address)
+		if err != nil {
+			return err
+		}
+		err = read()
+		var bad *BadLog
+		if !errors.As(err, &bad) {
+			return err
+		}
+		if now, failed := firstOf(conn, address); failed != nil || now == before {
+			return err
+		}
+	}
+}
+
 func (r *reading) fetch() error {
 	if r.count == 0 {
 		r.count = fewestAtOnce
@@ -218,6 +250,8 @@ func (w *walk) step(read Record, size int64) error {
 		it.end = w.end
 		w.segments = append(w.segments, it)
 	case TakenOver:
+	case Merged:
+		w.segments[last].isMerged = true
 	default:
 		w.hasSteps = true
 		if w.use != nil {
@@ -250,39 +284,72 @@ func (w *walk) check() error {
 
 // Records calls `use` with each record that a pool file has not, in order.
 func (r *Redis) Records(pool Digest, use func(Record) error) error {
-	r.mutex.Lock()
-	appended, all := r.appended, append([]segment(nil), r.segments...)
-	r.mutex.Unlock()
-	if err := r.Sync(appended.number); err != nil {
-		return fmt.Errorf("%w: %v", ErrUnread, err)
-	}
-	return r.options.records(all, appended, pool, use)
+	return readOnce(r.Reader(pool, use))
 }
 
-// records calls `use` with each record of these segments, up to an end, that a pool file has not.
-func (o *Options) records(all []segment, end mark, pool Digest, use func(Record) error) error {
+// Reader gives what calls `use` with the same records, and then with those that come.
+func (r *Redis) Reader(pool Digest, use func(Record) error) (Reader, error) {
+	r.mutex.Lock()
+	all := append([]segment(nil), r.segments...)
+	r.mutex.Unlock()
+	return r.options.reader(all, r.last, pool, use)
+}
+
+// last gives the end of the journal, once Redis has it.
+func (r *Redis) last() (mark, error) {
+	r.mutex.Lock()
+	appended := r.appended
+	r.mutex.Unlock()
+	return appended, r.Sync(appended.number)
+}
+
+// logReader reads the records of a log, up to an end that is asked for each time.
+type logReader struct {
+	conn redis.Conn
+	walk walk
+	from uint64
+	last func() (mark, error)
+}
+
+// reader reads the records that a pool file has not from the segments of a log on.
+func (o *Options) reader(all []segment, last func() (mark, error), pool Digest, use func(Record) error) (Reader, error) {
 	base, found := baseOf(all, pool)
 	if !found {
-		return o.Address.lostPool(pool)
+		return nil, o.Address.lostPool(pool)
 	}
 	conn, err := o.connect()
 	if err != nil {
-		return fmt.Errorf("%w: %v", ErrUnread, err)
+		return nil, fmt.Errorf("%w: %v", ErrUnread, err)
 	}
-	defer conn.Close()
 	older := openOnly(all[base].open, use)
 	needed := neededFrom(all, base)
-	w := walk{address: o.Address, kept: place{end.number, end.chain}, use: func(at int, record Record) error {
+	w := walk{address: o.Address, use: func(at int, record Record) error {
 		if needed+at < base {
 			return older(record)
 		}
 		return use(record)
 	}}
-	if err := w.all(conn, all[needed].first, end.number); err != nil {
+	return &logReader{conn, w, all[needed].first, last}, nil
+}
+
+// Read reads all that the log has now and that was not read before.
+func (l *logReader) Read() error {
+	end, err := l.last()
+	if err != nil {
+		return fmt.Errorf("%w: %v", ErrUnread, err)
+	}
+	if end.number != l.walk.kept.number {
+		l.walk.kept, l.walk.found = place{end.number, end.chain}, nil
+	}
+	if err := l.walk.all(l.conn, l.from, end.number); err != nil {
 		return err
 	}
-	return w.check()
+	l.from = l.walk.end.number + 1
+	return l.walk.check()
 }
+
+// Close closes the connection.
+func (l *logReader) Close() { l.conn.Close() }
 
 // baseFor gives the place of the segment that goes on from a pool file.
 func (w *walk) baseFor(pool Digest) (int, error) {
@@ -298,6 +365,15 @@ func (w *walk) baseFor(pool Digest) (int, error) {
 		return 0, w.address.bad("the records before record %d are missing", w.segments[0].first)
 	}
 	return base, nil
+}
+
+// baseToWrite gives the same for a server that is to write the log.
+func (w *walk) baseToWrite(pool Digest) (int, error) {
+	base, err := w.baseFor(pool)
+	if err == nil && isMergedSince(w.segments, base) {
+		err = w.address.lostPool(pool)
+	}
+	return base, err
 }
 
 func (a Address) lostPool(pool Digest) error {

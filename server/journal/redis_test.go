@@ -250,6 +250,8 @@ func TestOpenStreamsAreKeptInRedis(t *testing.T) {
 	}
 }
 
+func TestAReaderReadsOnInRedis(t *testing.T) { readsOn(t, created(t, options(t, redistest.Start(t)))) }
+
 // TestAnOlderPoolFileIsTold has the pool file of the save before the last: the log has what came after it, but not all of a stream that was open.
 func TestAnOlderPoolFileIsTold(t *testing.T) {
 	t.Parallel()
@@ -275,6 +277,91 @@ func TestAnOlderPoolFileIsTold(t *testing.T) {
 	isRefused(t, server, o, pools[1], "no record goes on from the pool file")
 	if _, err := Open(folder, pools[1], quiet); err == nil || !strings.Contains(err.Error(), "no segment goes on from the pool file") {
 		t.Fatal(err)
+	}
+}
+
+// TestWhatIsMergedIsNotInTheLog has pool files from before a tenant came from another shard, of which the log keeps the records: a server that writes
+// the log may not go on from them, and one that follows may.
+func TestWhatIsMergedIsNotInTheLog(t *testing.T) {
+	t.Parallel()
+	server := redistest.Start(t)
+	o := options(t, server)
+	inRedis, folder := created(t, o), t.TempDir()
+	for _, j := range []Journal{inRedis, opened(t, folder, pools[0])} {
+		for number := 1; number < len(pools); number++ {
+			if err := j.Begin(pools[number], nil); err != nil {
+				t.Fatal(err)
+			}
+			step := numbered(number)
+			if number == 2 {
+				step = frames.Step{Kind: Merged}
+			}
+			last, err := j.Append(step)
+			if err == nil {
+				err = j.Sync(last)
+			}
+			if err != nil {
+				t.Fatal(err)
+			}
+		}
+	}
+	for number := range pools {
+		if number < 2 {
+			isRefused(t, server, o, pools[number], "no record goes on from the pool file")
+		} else {
+			openedRedis(t, o, pools[number])
+		}
+		if _, err := Open(folder, pools[number], quiet); (err == nil) != (number >= 2) {
+			t.Fatal(number, err)
+		}
+	}
+	follower, err := Follow(o, pools[1], errors.New("it follows"))
+	if err != nil {
+		t.Fatal(err)
+	}
+	follower.Close()
+}
+
+// TestALogThatIsTrimmedWhileItIsRead saves, and so removes records, while the log is read through: the read begins again. What is missing although
+// nobody trims is lost.
+func TestALogThatIsTrimmedWhileItIsRead(t *testing.T) {
+	t.Parallel()
+	server := redistest.Start(t)
+	o := options(t, server)
+	j := created(t, o)
+	appendAll(t, j, 0, 3*fewestAtOnce)
+	conn, err := o.connect()
+	if err == nil {
+		err = j.Sync(j.Number())
+	}
+	if err != nil {
+		t.Fatal(err)
+	}
+	defer conn.Close()
+	reads := 0
+	through := func() error {
+		reads++
+		w := walk{address: o.Address, use: func(_ int, r Record) error {
+			if reads > 1 || r.Number > 3 {
+				return nil
+			}
+			if err := j.Begin(pools[1], nil); err != nil {
+				return err
+			}
+			return j.Drop()
+		}}
+		return w.all(conn, 1, 0)
+	}
+	if err := unlessTrimmed(conn, o.Address, through); err != nil || reads != 2 {
+		t.Fatal(reads, err)
+	}
+	appendAll(t, j, 0, 3)
+	if err := j.Sync(j.Number()); err != nil {
+		t.Fatal(err)
+	}
+	server.Do("XDEL", "site", idOf(j.Number()-1))
+	if err := unlessTrimmed(conn, o.Address, through); err == nil || reads != 3 {
+		t.Fatal(reads, err)
 	}
 }
 

@@ -42,6 +42,8 @@ type segment struct {
 	start int64
 	end   mark
 	size  int64
+	// isMerged says that it has a Merged.
+	isMerged bool
 }
 
 // create makes the file of a segment that goes on behind a mark and has these steps. It appears whole: it is written beside its place,
@@ -151,6 +153,9 @@ func Open(folder string, pool Digest, tell func(format string, values ...any)) (
 		return nil, err
 	}
 	base := j.segments[j.base]
+	if isMergedSince(j.segments, j.base) {
+		return nil, lostPool(folder, pool)
+	}
 	if len(base.open) > 0 && base.open[0] < j.segments[0].first {
 		if j.base < len(j.segments)-1 {
 			// A later save has dropped them.
@@ -246,7 +251,9 @@ func readSegment(place string, isLast bool) (segment, error) {
 		return it, err
 	}
 	for err == nil {
-		_, err = readRecord(from, &it.end)
+		var record Record
+		record, err = readRecord(from, &it.end)
+		it.isMerged = it.isMerged || err == nil && record.Step.Kind == Merged
 	}
 	if err == io.EOF {
 		return it, nil
@@ -313,6 +320,16 @@ func baseOf(all []segment, pool Digest) (at int, found bool) {
 		}
 	}
 	return 0, false
+}
+
+// isMergedSince tells whether tenants came from another shard after the pool file of a segment.
+func isMergedSince(all []segment, base int) bool {
+	for _, it := range all[base+1:] {
+		if it.isMerged {
+			return true
+		}
+	}
+	return false
 }
 
 // isTorn tells whether what is behind a mark is what a crash leaves of a record: its beginning, or its beginning and zeros, to the end

@@ -23,6 +23,8 @@ type Limits struct {
 	counts map[string]int
 	// answers has the bytes of the answers that wait until a user takes them.
 	answers map[string]int64
+	// lines and spools have the bytes of lines that the requests of a user hold, and of the temporary files of its pushes.
+	lines, spools map[string]int64
 }
 
 // Load reads the limits of a folder. `tell` gets a line for the operator where they cannot be read later on.
@@ -32,7 +34,7 @@ func Load(folder string, tell func(format string, values ...any)) (*Limits, erro
 	if err != nil {
 		return nil, err
 	}
-	return &Limits{values: followed, counts: map[string]int{}, answers: map[string]int64{}}, nil
+	return &Limits{values: followed, counts: map[string]int{}, answers: map[string]int64{}, lines: map[string]int64{}, spools: map[string]int64{}}, nil
 }
 
 // Get gives the limits as they are now.
@@ -69,14 +71,19 @@ var (
 // Enter counts a request or session of a user, and gives the call that ends it. A visitor without a name is counted by its address,
 // without its port.
 func (l *Limits) Enter(user, address string) (leave func(), err error) {
-	who := "user " + user
-	if user == "" {
-		who = "visitor " + host(address)
-	}
+	who := whoIs(user, address)
 	if !l.take(who, l.Get().PerUser) {
 		return nil, ErrUserBusy
 	}
 	return l.leaver(who), nil
+}
+
+// whoIs is under which name a user is counted, or a visitor.
+func whoIs(user, address string) string {
+	if user == "" {
+		return "visitor " + host(address)
+	}
+	return "user " + user
 }
 
 func host(address string) string {
@@ -232,9 +239,11 @@ type Values struct {
 	Connections, PerAddress, PerUser               int
 	Handshake, Idle, Request, Drain, Step, Hook    time.Duration
 	RequestBytes, Quota, JournalBytes, ChildMemory int64
+	SecondChild                                    int64
 	DailyBytes                                     int64
 	SaveEvery, FrameIdle, DailyChild               time.Duration
-	StreamBytes, AnswerBytes                       int64
+	StreamBytes, AnswerBytes, LineBytes            int64
+	SpoolBytes, DiskReserve                        int64
 	StreamAge                                      time.Duration
 	StreamsByUser, StreamsByTenant                 int
 	Quotas, UserBytes                              map[string]int64

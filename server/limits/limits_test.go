@@ -305,3 +305,81 @@ func TestAnswersThatWait(t *testing.T) {
 		t.Error(l.answers)
 	}
 }
+
+func TestLinesOfRequests(t *testing.T) {
+	l, _ := loaded(t, "line-bytes 100\n")
+	hold := func(it *Held, bytes int64, want error) {
+		t.Helper()
+		if err := it.Hold(bytes); err != want {
+			t.Fatal(err)
+		}
+	}
+	first, second := l.Lines("alice", "10.0.0.1:1"), l.Lines("alice", "10.0.0.2:1")
+	hold(first, 60, nil)
+	hold(second, 40, nil)
+	hold(second, 1, ErrLines)
+	hold(l.Lines("bob", "10.0.0.1:1"), 100, nil)
+	visitor := l.Lines("", "10.0.0.1:1")
+	hold(visitor, 100, nil)
+	hold(l.Lines("", "10.0.0.1:2"), 1, ErrLines)
+	hold(l.Lines("", "10.0.0.2:2"), 1, nil)
+	first.Free()
+	first.Free()
+	hold(second, 60, nil)
+	hold(first, 1, ErrLines)
+	second.Free()
+	visitor.Free()
+	if len(l.lines) != 2 {
+		t.Error(l.lines)
+	}
+}
+
+func TestARestOfTheDiskIsKept(t *testing.T) {
+	defer func(was func(string) (int64, int64, error)) { free = was }(free)
+	for _, it := range []struct {
+		lines     string
+		left, all int64
+		err       error
+		want      error
+	}{
+		{"disk-reserve 1M\n", 1 << 20, 1 << 40, nil, nil},
+		{"disk-reserve 1M\n", 1<<20 - 1, 1 << 40, nil, ErrDisk},
+		{"disk-reserve 1M\n", 1 << 18, 1 << 20, nil, nil},
+		{"disk-reserve 1M\n", 1<<18 - 1, 1 << 20, nil, ErrDisk},
+		{"", 256<<20 - 1, 1 << 40, nil, ErrDisk},
+		{"disk-reserve 0\n", 0, 1 << 20, nil, nil},
+		{"", 0, 0, errors.New("no such call"), nil},
+	} {
+		l, _ := loaded(t, it.lines)
+		free = func(string) (int64, int64, error) { return it.left, it.all, it.err }
+		if err := l.MayGrow("folder"); err != it.want {
+			t.Errorf("%+v: %v", it, err)
+		}
+	}
+}
+
+func TestWhatADiskHas(t *testing.T) {
+	left, all, err := free(t.TempDir())
+	if err != nil || left < 0 || all < left || all == 0 {
+		t.Fatal(left, all, err)
+	}
+}
+
+func TestSpoolsOfPushes(t *testing.T) {
+	l, _ := loaded(t, "spool-bytes 100\n")
+	first, second, other := l.Spool("alice", "a:1"), l.Spool("alice", "a:1"), l.Spool("bob", "a:1")
+	for _, it := range []struct {
+		of    *Held
+		bytes int64
+		want  error
+	}{{first, 60, nil}, {second, 41, ErrSpools}, {second, 40, nil}, {first, 1, ErrSpools}, {other, 100, nil}, {l.Lines("alice", "a:1"), 1000, nil}} {
+		if err := it.of.Hold(it.bytes); err != it.want {
+			t.Fatal(it, err)
+		}
+	}
+	first.Free()
+	second.Free()
+	if len(l.spools) != 1 {
+		t.Fatal(l.spools)
+	}
+}

@@ -59,11 +59,7 @@ func (d *Door) speakFrames(ctx context.Context, conn net.Conn, in *bufio.Reader)
 // read takes frames until there is no more to take.
 func (s *session) read(ctx context.Context) {
 	for {
-		var until time.Time
-		if len(s.streams) > 0 {
-			until = time.Now().Add(s.door.site.Limits.Get().FrameIdle)
-		}
-		if s.conn.SetReadDeadline(until) != nil {
+		if s.await() != nil {
 			return
 		}
 		step, err := frames.ReadStep(s.in)
@@ -71,6 +67,22 @@ func (s *session) read(ctx context.Context) {
 			return
 		}
 	}
+}
+
+// await waits for the next frame, and bounds the time until it is there: with a stream open FrameIdle in all; else a client may be silent for as
+// long as it likes, and a frame that it has begun has to come within Idle.
+func (s *session) await() error {
+	values := s.door.site.Limits.Get()
+	if len(s.streams) > 0 {
+		return s.conn.SetReadDeadline(time.Now().Add(values.FrameIdle))
+	}
+	if err := s.conn.SetReadDeadline(time.Time{}); err != nil {
+		return err
+	}
+	if _, err := s.in.Peek(1); err != nil {
+		return err
+	}
+	return s.conn.SetReadDeadline(time.Now().Add(values.Idle))
 }
 
 // take passes a step on, and tells whether the connection goes on.

@@ -15,6 +15,7 @@ import (
 	"sync"
 	"time"
 
+	"gitpoold/child"
 	"gitpoold/journal"
 	"gitpoold/shards"
 	"gitpoold/site"
@@ -237,7 +238,7 @@ func (d *Door) status(context.Context, []string) (string, error) {
 	line("answering", state.IsAnswering)
 	line("child", childrenOf(states))
 	line("child-bytes", residentOf(states))
-	line("server-bytes", residentBytes(os.Getpid()))
+	line("server-bytes", child.Resident(os.Getpid()))
 	line("connections", d.site.Limits.Connections())
 	line("streams", state.Streams)
 	line("steps", state.Steps)
@@ -303,13 +304,13 @@ func (d *Door) Measure() {
 	if d.store.IsReplica() {
 		d.measureReplica()
 	}
-	m.Gauge("gitpoold_answering", "1 while questions are answered, 0 while the child is replaced or saves.",
+	m.Gauge("gitpoold_answering", "1 while questions are answered, 0 while the child is replaced, or saves without a second one.",
 		number(func(s store.State) int64 { return one(s.IsAnswering) }))
 	m.Gauge("gitpoold_open_streams", "Streams that are open.", number(func(s store.State) int64 { return int64(s.Streams) }))
 	m.Gauge("gitpoold_connections", "Connections that are open.", func() float64 { return float64(d.site.Limits.Connections()) })
 	m.Gauge("gitpoold_child_resident_bytes", "The memory of the children.", func() float64 { return float64(residentOf(d.store.States())) })
 	m.Gauge("gitpoold_shards", "Shards.", func() float64 { return float64(d.store.Count()) })
-	m.Gauge("gitpoold_server_resident_bytes", "The memory of the server.", func() float64 { return float64(residentBytes(os.Getpid())) })
+	m.Gauge("gitpoold_server_resident_bytes", "The memory of the server.", func() float64 { return float64(child.Resident(os.Getpid())) })
 }
 
 // measureLog lets metrics tell how a journal in Redis stands.

@@ -224,6 +224,33 @@ func TestWrongFramesCloseTheConnection(t *testing.T) {
 }
 
 // TestALostConnectionGivesItsStreamUp has a client that goes away, or falls silent, in the middle of a stream.
+// TestAHalfFrameIsNotWaitedFor begins frames and does not end them: the connections are closed after `idle`, and nothing of them is left. A client
+// that is silent between frames is left alone.
+func TestAHalfFrameIsNotWaitedFor(t *testing.T) {
+	folder := served(t, "idle 300ms\n")
+	silent, talking := dialed(t, folder), dialed(t, folder)
+	ask(t, talking, frames.Step{Kind: frames.Ask, Tenant: "a", Body: []byte("refs")})
+	before := runtime.NumGoroutine()
+	whole := frames.Step{Kind: frames.Ask, Tenant: "a", Body: []byte("refs")}.AppendTo(nil)
+	for _, half := range [][]byte{whole[:1], whole[:2], whole[:4], whole[:len(whole)-1], append(append([]byte(nil), whole...), 4)} {
+		conn := dialed(t, folder)
+		_, err := conn.Write(half)
+		must(t, err)
+		must(t, conn.SetReadDeadline(time.Now().Add(20*time.Second)))
+		if _, err := io.ReadAll(conn); err != nil {
+			t.Fatalf("%x: %v", half, err)
+		}
+	}
+	for until := time.Now().Add(20 * time.Second); runtime.NumGoroutine() > before; time.Sleep(10 * time.Millisecond) {
+		if time.Now().After(until) {
+			t.Fatal(runtime.NumGoroutine()-before, "goroutines are left")
+		}
+	}
+	for _, conn := range []net.Conn{silent, talking} {
+		ask(t, conn, frames.Step{Kind: frames.Ask, Tenant: "a", Body: []byte("refs")})
+	}
+}
+
 func TestALostConnectionGivesItsStreamUp(t *testing.T) {
 	folder := served(t, "frame-idle 200ms\n")
 	for _, silent := range []bool{false, true} {

@@ -2,9 +2,9 @@ package operator
 
 import (
 	"fmt"
-	"os"
 	"strings"
 
+	"gitpoold/child"
 	"gitpoold/journal"
 	"gitpoold/store"
 )
@@ -47,7 +47,7 @@ func tellShards(text *strings.Builder, states []store.State) {
 	fmt.Fprintf(text, "%-18s %d\n", "shards", len(states))
 	for at, it := range states {
 		fmt.Fprintf(text, "%-18s answering %v child %d child-bytes %d tenants %d bytes %d streams %d journal-bytes %d journal-broken %v last-save %s\n",
-			fmt.Sprintf("shard-%d", at+1), it.IsAnswering, it.ChildPid, residentBytes(it.ChildPid), it.Tenants, it.TenantBytes, it.Streams,
+			fmt.Sprintf("shard-%d", at+1), it.IsAnswering, it.ChildPid, childBytes(it), it.Tenants, it.TenantBytes, it.Streams,
 			it.JournalBytes, it.JournalBroken, when(it.LastSave))
 	}
 }
@@ -61,23 +61,15 @@ func childrenOf(states []store.State) string {
 	return strings.Join(pids, " ")
 }
 
+// childBytes is how much memory the child of a shard has, and the second one while there is one.
+func childBytes(it store.State) int64 {
+	return child.Resident(it.ChildPid) + child.Resident(it.SecondPid)
+}
+
 // residentOf is how much memory the children have.
 func residentOf(states []store.State) (bytes int64) {
 	for _, it := range states {
-		bytes += residentBytes(it.ChildPid)
+		bytes += childBytes(it)
 	}
 	return bytes
-}
-
-// residentBytes is how much memory a process has, 0 where that is not known.
-func residentBytes(pid int) int64 {
-	text, err := os.ReadFile(fmt.Sprintf("/proc/%d/statm", pid))
-	var size, resident int64
-	if err != nil {
-		return 0
-	}
-	if _, err := fmt.Sscan(string(text), &size, &resident); err != nil {
-		return 0
-	}
-	return resident * int64(os.Getpagesize())
 }

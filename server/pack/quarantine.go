@@ -39,7 +39,7 @@ type entry struct {
 
 // NewQuarantine makes an empty one in a folder for temporary files. Close gives its disk space back.
 func NewQuarantine(folder string, base Base, limits Limits) (*Quarantine, error) {
-	spool, err := newSpool(folder)
+	spool, err := newSpool(folder, limits.MayGrow)
 	if err != nil {
 		return nil, err
 	}

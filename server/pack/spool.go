@@ -8,6 +8,8 @@ const (
 	// A page is how much of a spool is read at once, and so many pages are in memory: those that were read last.
 	spoolPage  = 1 << 12
 	spoolPages = 1 << 10
+	// spoolAsked is after how much it is asked again whether a spool may grow.
+	spoolAsked = 1 << 20
 )
 
 // spool is a temporary file without a name. Bytes are appended, and read where they were put. Objects that stand beside each other in a
@@ -20,9 +22,12 @@ type spool struct {
 	pages map[int64][]byte
 	turn  [spoolPages]int64 // the numbers of the pages; next is the place of the oldest one
 	next  int
+	// mayGrow is asked when the file comes to `asked`, for what goes up to the next such place.
+	mayGrow func(bytes int64) error
+	asked   int64
 }
 
-func newSpool(folder string) (*spool, error) {
+func newSpool(folder string, mayGrow func(bytes int64) error) (*spool, error) {
 	file, err := os.CreateTemp(folder, "gitpoold-push-")
 	if err != nil {
 		return nil, err
@@ -31,7 +36,7 @@ func newSpool(folder string) (*spool, error) {
 		file.Close()
 		return nil, err
 	}
-	return &spool{file: file, pages: map[int64][]byte{}}, nil
+	return &spool{file: file, pages: map[int64][]byte{}, mayGrow: mayGrow}, nil
 }
 
 // append puts bytes behind all others.
@@ -56,11 +61,23 @@ func (s *spool) flushFull() error {
 	if len(s.tail) < spoolBlock {
 		return nil
 	}
+	if err := s.ask(); err != nil {
+		return err
+	}
 	if _, err := s.file.WriteAt(s.tail, s.end-spoolBlock); err != nil {
 		return err
 	}
 	s.last, s.tail = s.tail, nil
 	return nil
+}
+
+// ask asks from time to time whether the file may grow. A spool of less than a block has nothing in its file, and is not asked about.
+func (s *spool) ask() error {
+	if s.mayGrow == nil || s.end <= s.asked {
+		return nil
+	}
+	s.asked += spoolAsked
+	return s.mayGrow(spoolAsked)
 }
 
 // written is how much of the spool the file has: whole blocks.

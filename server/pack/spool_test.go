@@ -2,13 +2,14 @@ package pack
 
 import (
 	"bytes"
+	"errors"
 	"math/rand"
 	"testing"
 )
 
 // TestASpoolGivesWhatWasPut puts pieces of all sizes, and reads them and parts of them in any order, also between puts.
 func TestASpoolGivesWhatWasPut(t *testing.T) {
-	s, err := newSpool(t.TempDir())
+	s, err := newSpool(t.TempDir(), nil)
 	if err != nil {
 		t.Fatal(err)
 	}
@@ -44,5 +45,37 @@ func TestASpoolGivesWhatWasPut(t *testing.T) {
 	}
 	if len(all) < 2*spoolPages*spoolPage {
 		t.Fatal("all of it was in memory", len(all))
+	}
+}
+
+// TestASpoolAsksBeforeItGrows has a disk with room for so many megabytes.
+func TestASpoolAsksBeforeItGrows(t *testing.T) {
+	full := errors.New("full")
+	for room := int64(0); room < 4; room++ {
+		left := room << 20
+		s, err := newSpool(t.TempDir(), func(bytes int64) error {
+			if left -= bytes; left < 0 {
+				return full
+			}
+			return nil
+		})
+		if err != nil {
+			t.Fatal(err)
+		}
+		defer s.file.Close()
+		for err == nil {
+			err = s.append(make([]byte, 1000))
+		}
+		if info, _ := s.file.Stat(); err != full || info.Size() != room<<20 {
+			t.Errorf("%d: %v, %v", room, err, info.Size())
+		}
+	}
+	small, err := newSpool(t.TempDir(), func(int64) error { return full })
+	if err == nil {
+		defer small.file.Close()
+		err = small.append(make([]byte, spoolBlock-1))
+	}
+	if err != nil {
+		t.Error(err)
 	}
 }

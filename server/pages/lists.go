@@ -49,7 +49,8 @@ type tenantRow struct {
 
 // tenants lists the tenants that the user may see, a page at a time.
 func (v Visit) tenants(ctx context.Context) (Answer, error) {
-	rows, more := v.Listed, ""
+	all := v.Listed()
+	rows, more := all, ""
 	after := v.Query.Get("after")
 	for len(rows) > 0 && after != "" && rows[0].Name <= after {
 		rows = rows[1:]
@@ -61,7 +62,7 @@ func (v Visit) tenants(ctx context.Context) (Answer, error) {
 	page := struct {
 		Rows        []tenantRow
 		Count, More string
-	}{nil, several(len(v.Listed), "repository", "repositories"), more}
+	}{nil, several(len(all), "repository", "repositories"), more}
 	for _, it := range rows {
 		c, err := headOf(ctx, it.Repository)
 		if err != nil {

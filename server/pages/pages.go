@@ -20,6 +20,7 @@ import (
 
 	"gitpoold/browse"
 	"gitpoold/tenants"
+	"gitpoold/turns"
 )
 
 // Repository is what pages ask: a tenant.
@@ -33,9 +34,10 @@ type Visit struct {
 	Place      Place
 	Query      url.Values
 	User       string
-	Repository Repository // of the place's tenant
-	Listed     []Listed   // the tenants, for that page
-	CloneHTTP  string     // what git clones, or ""
+	Network    string          // by which visitors take turns
+	Repository Repository      // of the place's tenant
+	Listed     func() []Listed // gives the tenants, for that page
+	CloneHTTP  string          // what git clones, or ""
 	CloneSSH   string
 	Markdown   Markdown // nil where Markdown is shown as text
 	Now        time.Time
@@ -93,24 +95,40 @@ func Static(kind Kind) Answer {
 	return Answer{Status: http.StatusOK, Kind: "text/css; charset=utf-8", Body: style, Tag: styleDigest, IsStatic: true}
 }
 
-// atOnce is how many pages are made at once, and patience how long one may take, with the time that it waits.
+// The kinds of those who wait for a page.
 const (
-	atOnce   = 4
-	patience = 60 * time.Second
+	visitors = turns.First
+	users    = turns.Second
 )
 
-var room = make(chan struct{}, atOnce)
+// room bounds how many pages are made at once: four, of visitors two, of one address one, and of one user two.
+var room = turns.New(turns.Limits{Places: 4, OfKind: [2]int{2, 4}, OfOneOfIt: [2]int{1, 2}})
+
+// How long a page waits for its turn, and how long it may be made.
+const (
+	longestWait = 20 * time.Second
+	longestMake = 30 * time.Second
+)
+
+// enter waits until the page may be made, and gives the call that ends its turn.
+func (v Visit) enter(ctx context.Context) (leave func(), err error) {
+	ctx, stop := context.WithTimeout(ctx, longestWait)
+	defer stop()
+	if v.User == "" {
+		return room.Enter(ctx, visitors, v.Network)
+	}
+	return room.Enter(ctx, users, v.User)
+}
 
 // Answer makes the page. Its context bounds the time in which a stream is written; the page has to be made sooner.
 func (v Visit) Answer(ctx context.Context) Answer {
-	ctx, stop := context.WithTimeout(ctx, patience)
-	defer stop()
-	select {
-	case room <- struct{}{}:
-		defer func() { <-room }()
-	case <-ctx.Done():
-		return v.refusalOf(ctx.Err())
+	leave, err := v.enter(ctx)
+	if err != nil {
+		return v.refusalOf(err)
 	}
+	defer leave()
+	ctx, stop := context.WithTimeout(ctx, longestMake)
+	defer stop()
 	makers := map[Kind]func(Visit, context.Context) (Answer, error){
 		Tenants: Visit.tenants, Home: Visit.home, Refs: Visit.refs, Log: Visit.log, Commit: Visit.commit, Tree: Visit.tree,
 		Blob: Visit.blob, Raw: Visit.raw, Archive: Visit.archive}

@@ -3,6 +3,7 @@ package pktline
 import (
 	"bufio"
 	"bytes"
+	"fmt"
 	"io"
 	"strings"
 	"testing"
@@ -126,4 +127,30 @@ func FuzzNext(f *testing.F) {
 			}
 		}
 	})
+}
+
+func TestLinesThatAreRefusedArePassedOver(t *testing.T) {
+	long := strings.Repeat("x", 1000)
+	r := readerOf(t, []string{"one", long, "two", long, long}, 200)
+	for at, want := range []string{"one", "", "two", long[:skimmed], ""} {
+		packet, err := r.Next()
+		if string(packet.Text) != want || (err != nil) != (want == "") {
+			t.Fatal(at, packet, err)
+		}
+		if at == 1 && (err != ErrTooMuch || !r.MayGoOn()) || at == 4 && err != ErrTooMuch {
+			t.Fatal(at, err)
+		}
+		if at == 1 {
+			r.Skim(1100)
+		}
+	}
+}
+
+func readerOf(t *testing.T, texts []string, most int64) *Reader {
+	t.Helper()
+	text := ""
+	for _, it := range texts {
+		text += fmt.Sprintf("%04x%s", len(it)+4, it)
+	}
+	return NewReader(bufio.NewReader(strings.NewReader(text)), most)
 }

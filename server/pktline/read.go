@@ -35,11 +35,21 @@ var ErrMalformed = errors.New("this is no pkt-line")
 // ErrTooMuch says that a request has more bytes in lines than its reader was told to take.
 var ErrTooMuch = errors.New("the request has more lines than this server takes")
 
+// Budget counts the bytes of lines that a request holds. Hold refuses those that are too many, and Free gives all of them back.
+type Budget interface {
+	Hold(bytes int64) error
+	Free()
+}
+
 // Reader reads packets. What follows the last one is left in the reader below it.
 type Reader struct {
 	in         *bufio.Reader
 	most, left int64
 	index      [4]byte
+	budget     Budget
+	// over are the bytes of a line that are still to be passed over, and isRefused tells that this line was refused.
+	over                  int
+	isRefused, isSkimming bool
 }
 
 // leastCost is what a line counts at least: to hold a short line takes more than its bytes.
@@ -50,12 +60,31 @@ func NewReader(in *bufio.Reader, most int64) *Reader {
 	return &Reader{in: in, most: most, left: most}
 }
 
+// Charge lets a budget count the lines too, in the same way.
+func (r *Reader) Charge(budget Budget) { r.budget = budget }
+
 // Renew lets the reader take as many bytes again as at its beginning: another request begins, and nothing is kept of those before.
-func (r *Reader) Renew() { r.left = r.most }
+func (r *Reader) Renew() {
+	if r.left = r.most; r.budget != nil {
+		r.budget.Free()
+	}
+}
+
+// skimmed is how much of a line is kept of a request that was refused: the two names of a change.
+const skimmed = 128
+
+// Skim lets the reader take so many bytes more, of which nobody holds anything: they are the rest of a request that was refused.
+func (r *Reader) Skim(most int64) { r.left, r.budget, r.isSkimming = most, nil, true }
+
+// MayGoOn tells whether the error that Next gave was about a line that it can pass over.
+func (r *Reader) MayGoOn() bool { return r.isRefused }
 
 // Next gives the next packet. The error is io.EOF only if the input ends before a packet; inside of one it is
 // io.ErrUnexpectedEOF. The text lasts as long as the caller wants.
 func (r *Reader) Next() (Packet, error) {
+	if err := r.passOver(); err != nil {
+		return Packet{}, err
+	}
 	if _, err := io.ReadFull(r.in, r.index[:]); err != nil {
 		return Packet{}, err
 	}
@@ -66,10 +95,32 @@ func (r *Reader) Next() (Packet, error) {
 	if size < len(r.index) {
 		return special(size)
 	}
-	if r.left -= cost(size); r.left < 0 {
-		return Packet{}, ErrTooMuch
+	if err := r.take(cost(size)); err != nil {
+		r.over, r.isRefused = size-len(r.index), true
+		return Packet{}, err
 	}
 	return r.data(size - len(r.index))
+}
+
+// take counts the bytes of a line.
+func (r *Reader) take(bytes int64) error {
+	if r.left -= bytes; r.left < 0 {
+		return ErrTooMuch
+	}
+	if r.budget != nil {
+		return r.budget.Hold(bytes)
+	}
+	return nil
+}
+
+// passOver passes over what is left of the last line.
+func (r *Reader) passOver() error {
+	_, err := r.in.Discard(r.over)
+	r.over, r.isRefused = 0, false
+	if err == io.EOF {
+		err = io.ErrUnexpectedEOF
+	}
+	return err
 }
 
 func cost(size int) int64 {
@@ -80,6 +131,9 @@ func cost(size int) int64 {
 }
 
 func (r *Reader) data(size int) (Packet, error) {
+	if r.isSkimming && size > skimmed {
+		r.over, size = size-skimmed, skimmed
+	}
 	text := make([]byte, size)
 	if _, err := io.ReadFull(r.in, text); err != nil {
 		if err == io.EOF {

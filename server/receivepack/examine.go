@@ -168,7 +168,7 @@ func (p *push) examineRefs(ctx context.Context) error {
 	for _, change := range p.changes {
 		err := objects.CheckRef(change.Ref)
 		if err == nil && seen[change.Ref] {
-			err = refusal("the push changes " + change.Ref + " twice")
+			err = refusal("the push changes " + brief(change.Ref) + " twice")
 		}
 		seen[change.Ref] = true
 		if err == nil && !change.New.IsZero() {
@@ -185,11 +185,20 @@ func (p *push) examineRefs(ctx context.Context) error {
 	return nil
 }
 
+// brief gives the name of a ref, or the front of one that is longer than any ref may be.
+func brief(ref string) string {
+	const most = 1024
+	if len(ref) > most {
+		return ref[:100] + ".."
+	}
+	return ref
+}
+
 // refuseOthers lets no ref change where one was refused.
 func (p *push) refuseOthers() {
 	for _, change := range p.changes {
 		if p.bad[change.Ref] != "" {
-			p.refuseAll("nothing was pushed, for " + change.Ref + " was refused")
+			p.refuseAll("nothing was pushed, for " + brief(change.Ref) + " was refused")
 			return
 		}
 	}

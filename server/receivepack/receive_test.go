@@ -17,6 +17,7 @@ import (
 	"gitpoold/pack"
 	"gitpoold/pktline"
 	"gitpoold/tenants"
+	"gitpoold/uploadpack"
 )
 
 func readText(text string) (*request, error) {
@@ -43,7 +44,7 @@ func TestRequests(t *testing.T) {
 	q, err := readText(lines("shallow "+ones, zeros+" "+ones+" refs/heads/a\x00report-status push-options object-format=sha1",
 		ones+" "+zeros+" refs/heads/b c\n", "", "one", "two 2", "") + "PACK")
 	if err != nil || len(q.changes) != 2 || q.changes[1].Ref != "refs/heads/b c" || !q.changes[1].New.IsZero() || !q.can["report-status"] ||
-		!reflect.DeepEqual(q.options, []string{"one", "two 2"}) || !q.hasPack() {
+		!reflect.DeepEqual(q.options, []string{"one", "two 2"}) || !q.hasPack || q.refusal != nil {
 		t.Fatalf("%+v, %v", q, err)
 	}
 	for _, text := range []string{"", "0000"} {
@@ -60,10 +61,110 @@ func TestRequests(t *testing.T) {
 		lines("push-cert\x00push-cert"):                                "signed pushes",
 		"0001":                                                         "no pkt-line",
 	} {
-		if _, err := readText(text); err == nil || !strings.Contains(sentence(err), says) {
+		q, err := readText(text)
+		if err == nil {
+			err = q.refusal
+		}
+		if err == nil || !strings.Contains(sentence(err), says) {
 			t.Errorf("%q: %v", text, err)
 		}
 	}
+}
+
+// budget lets a push hold so many bytes of lines.
+type budget struct{ left, most int64 }
+
+func (b *budget) Hold(bytes int64) error {
+	if b.left -= bytes; b.left < 0 {
+		return uploadpack.Refused{Why: "the lines are too many"}
+	}
+	return nil
+}
+
+func (b *budget) Free() { b.left = b.most }
+
+// answered gives what the client of a push reads, which ends where it came to.
+func answered(s Server, text string) (report, rest string, err error) {
+	in, out := bufio.NewReader(strings.NewReader(text)), &bytes.Buffer{}
+	_, err = s.Serve(context.Background(), tenants.Tenant{}, in, pktline.NewWriter(out))
+	left, _ := in.Peek(1)
+	return out.String(), string(left), err
+}
+
+// TestARefusedPushIsReported has pushes whose lines are refused: the rest of them is read, and the report says why and comes whole.
+func TestARefusedPushIsReported(t *testing.T) {
+	change := zeros + " " + ones + " refs/heads/a"
+	first := change + "\x00report-status push-options"
+	long := strings.Repeat("x", 60_000)
+	for says, text := range map[string]string{
+		"the lines are too many": lines(first, change+long, change+long, "", "option", "") + "PACK",
+		"malformed line":         lines(first, "hello", change+long, "", long, "") + "PACK",
+		"more than 1024 options": lines(append(append([]string{first, ""}, strings.Split(strings.Repeat("o", 1025), "")...), "")...) + "PACK",
+		"signed pushes":          lines(first, "push-cert\x00x", change+long, "", "") + "PACK",
+	} {
+		report, rest, err := answered(Server{Lines: &budget{100_000, 100_000}}, text)
+		reader := pktline.NewReader(bufio.NewReader(strings.NewReader(report)), mostLines)
+		head, bad := reader.Next()
+		if err == nil || bad != nil || !strings.HasPrefix(string(head.Text), "unpack ") || !strings.Contains(string(head.Text), says) || rest != "" {
+			t.Errorf("%s: %q %v, %q", says, report, err, rest)
+		}
+		if ng, _ := reader.Next(); string(ng.Text) != "ng refs/heads/a unpacker error" {
+			t.Errorf("%s: %q", says, ng.Text)
+		}
+	}
+	// A push without a pack leaves what stands after its lines.
+	gone := ones + " " + zeros + " refs/heads/a\x00report-status"
+	if report, rest, err := answered(Server{}, lines(gone, "hello", "")+"next"); err == nil || rest == "" || !strings.Contains(report, "malformed") {
+		t.Error(report, rest, err)
+	}
+}
+
+// TestALongNameSpoilsNoReport has refs that are nearly as long as a packet: the report has a line for each ref, and each of them fits.
+func TestALongNameSpoilsNoReport(t *testing.T) {
+	long := strings.Repeat("x", pktline.LongestData-85)
+	names := []string{"refs/heads/a", "refs/heads/b", long, "refs/" + long[5:], "refs/" + long[5:], "refs/heads/c"}
+	text := ""
+	for _, it := range names {
+		text += lines(ones + " " + zeros + " " + it)
+	}
+	q, err := readText(text + "0000")
+	if err != nil || len(q.changes) != len(names) {
+		t.Fatal(q, err)
+	}
+	for _, whole := range []error{nil, pktline.ErrTooMuch} {
+		p := &push{request: q, bad: map[string]string{}}
+		if err := p.examineRefs(context.Background()); err != nil {
+			t.Fatal(err)
+		}
+		report := pktline.NewReader(bufio.NewReader(bytes.NewReader(p.status(whole))), mostLines)
+		head, err := report.Next()
+		if err != nil || !strings.HasPrefix(string(head.Text), "unpack ") {
+			t.Fatal(head, err)
+		}
+		for _, it := range names {
+			if packet, err := report.Next(); err != nil || !strings.HasPrefix(string(packet.Text), "ng "+it+" ") {
+				t.Fatal(len(packet.Text), err)
+			}
+		}
+		if last, err := report.Next(); err != nil || last.Kind != pktline.Flush {
+			t.Fatal(last, err)
+		}
+	}
+}
+
+// TestLinesOfAPushAreBounded has lines of more bytes than one push may have: little of them is held.
+func TestLinesOfAPushAreBounded(t *testing.T) {
+	change := zeros + " " + ones + " refs/heads/" + strings.Repeat("x", 60_000)
+	text := lines(change+"\x00report-status") + strings.Repeat(lines(change), 700) + "0000"
+	before := held()
+	q, err := readText(text)
+	if err != nil || q.refusal != pktline.ErrTooMuch || !q.hasPack {
+		t.Fatal(q, err)
+	}
+	if more := int64(held()) - int64(before); more > 40<<20 {
+		t.Fatal(more)
+	}
+	runtime.KeepAlive(q)
 }
 
 func name(digit byte) (n tenants.Name) {

@@ -40,42 +40,70 @@ type Change struct {
 const (
 	mostChanges = 65_536 // as many as a tenant may have refs
 	mostOptions = 1_024
-	mostLines   = 128 << 20
+	mostLines   = 32 << 20
 )
 
-// request is a push without its pack.
+// request is a push without its pack. Where it is refused, it has what came before the refusal.
 type request struct {
 	changes []Change
 	can     map[string]bool
 	options []string
+	// hasPack tells whether a pack follows: it does unless all refs go.
+	hasPack bool
+	refusal error
 }
 
 func refused(format string, values ...any) error {
 	return uploadpack.Refused{Why: fmt.Sprintf(format, values...)}
 }
 
-// readRequest reads up to the pack. It has no changes where the client ends the session.
+// readRequest reads up to the pack. It has no changes where the client ends the session. What refuses the push is kept, and the rest of the
+// request is read: a client that is still sending would not come to read a report.
 func readRequest(reader *pktline.Reader) (*request, error) {
 	q := &request{can: map[string]bool{}}
-	for {
-		packet, err := reader.Next()
-		if err == io.EOF && len(q.changes) == 0 || err == nil && packet.Kind == pktline.Flush {
-			break
-		}
-		if err == nil && packet.Kind != pktline.Data {
-			err = pktline.ErrMalformed
-		}
-		if err == nil {
-			err = q.line(string(packet.Text))
-		}
-		if err != nil {
-			return nil, cut(err)
-		}
-	}
-	if len(q.changes) == 0 || !q.can["push-options"] {
+	err := q.each(reader, q.line)
+	if err == io.EOF && len(q.changes) == 0 && q.refusal == nil {
 		return q, nil
 	}
-	return q, q.readOptions(reader)
+	if err == nil && q.can["push-options"] && len(q.changes) > 0 {
+		err = q.each(reader, q.option)
+	}
+	if q.refusal != nil {
+		return q, nil
+	}
+	return q, cut(err)
+}
+
+// each takes lines up to a flush. From a refusal on it passes over them.
+func (q *request) each(reader *pktline.Reader, take func(line string) error) error {
+	for {
+		packet, err := reader.Next()
+		switch {
+		case err != nil && (q.refusal != nil || !reader.MayGoOn()):
+			return err
+		case err == nil && packet.Kind == pktline.Flush:
+			return nil
+		case err == nil && packet.Kind != pktline.Data:
+			return pktline.ErrMalformed
+		case err == nil && q.refusal != nil:
+			q.skim(string(packet.Text))
+			continue
+		case err == nil:
+			err = take(string(packet.Text))
+		}
+		if q.refusal = err; err != nil {
+			q.skim(string(packet.Text))
+			reader.Skim(mostDrained)
+		}
+	}
+}
+
+// skim looks at a line of a push that is refused for whether a pack follows.
+func (q *request) skim(line string) {
+	if parts := strings.SplitN(line, " ", 3); len(parts) == 3 {
+		new, isNew := tenants.ParseName(parts[1])
+		q.hasPack = q.hasPack || isNew && !new.IsZero()
+	}
 }
 
 func cut(err error) error {
@@ -113,33 +141,17 @@ func (q *request) line(line string) error {
 		return refused("a push changes more than %d refs, as many as a tenant may have", mostChanges)
 	}
 	q.changes = append(q.changes, Change{parts[2], old, new})
+	q.hasPack = q.hasPack || !new.IsZero()
 	return nil
 }
 
-func (q *request) readOptions(reader *pktline.Reader) error {
-	for {
-		packet, err := reader.Next()
-		if err != nil {
-			return cut(err)
-		}
-		if packet.Kind == pktline.Flush {
-			return nil
-		}
-		if len(q.options) == mostOptions {
-			return refused("a push has more than %d options", mostOptions)
-		}
-		q.options = append(q.options, string(packet.Text))
+// option takes one line after those of the changes.
+func (q *request) option(line string) error {
+	if len(q.options) == mostOptions {
+		return refused("a push has more than %d options", mostOptions)
 	}
-}
-
-// hasPack tells whether a pack follows: it does unless all refs go.
-func (q *request) hasPack() bool {
-	for _, change := range q.changes {
-		if !change.New.IsZero() {
-			return true
-		}
-	}
-	return false
+	q.options = append(q.options, line)
+	return nil
 }
 
 var errNothing = errors.New("no ref of the push may change")

@@ -21,6 +21,8 @@ type Server struct {
 	Folder        string // for temporary files
 	Limits        pack.Limits
 	AllowsSuspect bool // takes objects that receive.fsckObjects of git-config(1) refuses
+	// Lines counts the bytes of refs and options while a push has them; nil counts nothing.
+	Lines pktline.Budget
 }
 
 // Result is what a push changed, and the options that it was given.
@@ -32,18 +34,26 @@ type Result struct {
 // Serve answers one push after Advertise. Changes of the result are durable. An error was told to the client where its protocol
 // has room for that; refs that were refused are no error.
 func (s Server) Serve(ctx context.Context, t tenants.Tenant, in *bufio.Reader, out *pktline.Writer) (Result, error) {
-	q, err := readRequest(pktline.NewReader(in, mostLines))
+	reader := pktline.NewReader(in, mostLines)
+	reader.Charge(s.Lines)
+	q, err := readRequest(reader)
+	if err == nil && !q.mayReport() {
+		err = q.refusal
+	}
 	if err != nil {
 		out.Line("ERR %s", sentence(err))
 		out.Flush()
 		return Result{}, err
 	}
-	if len(q.changes) == 0 {
+	if len(q.changes) == 0 && q.refusal == nil {
 		return Result{}, nil
 	}
 	p := &push{Server: s, request: q, t: t, bad: map[string]string{}}
-	whole := p.carryOut(ctx, in)
-	if whole != nil {
+	whole := q.refusal
+	if whole == nil {
+		whole = p.carryOut(ctx, in)
+	}
+	if whole != nil && q.hasPack {
 		_, _ = io.CopyN(io.Discard, in, mostDrained)
 	}
 	failed := p.report(out, whole)
@@ -55,6 +65,9 @@ func (s Server) Serve(ctx context.Context, t tenants.Tenant, in *bufio.Reader, o
 	}
 	return result, whole
 }
+
+// mayReport tells whether the client takes a report of the push.
+func (q *request) mayReport() bool { return q.can["report-status"] || q.can["report-status-v2"] }
 
 // mostDrained is how much of a refused pack is read, so that a client that is still sending comes to read the report.
 const mostDrained = 64 << 20
@@ -84,7 +97,7 @@ func (p *push) carryOut(ctx context.Context, in io.Reader) error {
 		return err
 	}
 	defer p.own.Close()
-	if p.hasPack() {
+	if p.hasPack {
 		if err := p.own.Read(ctx, in); err != nil {
 			return err
 		}
@@ -134,7 +147,7 @@ func (p *push) report(out *pktline.Writer, whole error) error {
 	if wayOut := wayOutOf(whole); wayOut != "" && hasBands {
 		fmt.Fprintf(out.Sideband(pktline.ProgressChannel, false), "%s\n", wayOut)
 	}
-	if p.can["report-status"] || p.can["report-status-v2"] {
+	if p.mayReport() {
 		text := p.status(whole)
 		if hasBands {
 			_, _ = out.Sideband(pktline.DataChannel, false).Write(text)
@@ -151,24 +164,34 @@ func (p *push) report(out *pktline.Writer, whole error) error {
 func (p *push) status(whole error) []byte {
 	var text bytes.Buffer
 	lines := pktline.NewWriter(&text)
+	tell := func(line string) { lines.Text(fitting(line) + "\n") }
 	if whole == nil {
-		lines.Line("unpack ok")
+		tell("unpack ok")
 	} else {
-		lines.Line("unpack %s", sentence(whole))
+		tell("unpack " + sentence(whole))
 	}
 	for _, change := range p.changes {
 		switch {
 		case whole != nil:
-			lines.Line("ng %s unpacker error", change.Ref)
+			tell("ng " + change.Ref + " unpacker error")
 		case p.bad[change.Ref] != "":
-			lines.Line("ng %s %s", change.Ref, p.bad[change.Ref])
+			tell("ng " + change.Ref + " " + p.bad[change.Ref])
 		default:
-			lines.Line("ok %s", change.Ref)
+			tell("ok " + change.Ref)
 		}
 	}
 	lines.FlushPacket()
 	lines.Flush()
 	return text.Bytes()
+}
+
+// fitting cuts a line to what fits into a packet. The line that named a ref had two names of objects too, so what is cut is the reason.
+func fitting(line string) string {
+	const most = pktline.LongestData - 1
+	if len(line) > most {
+		return line[:most]
+	}
+	return line
 }
 
 func wayOutOf(err error) string {

@@ -1,18 +1,23 @@
 """Scenes of what lasts: kills, full disks, damaged journals, saves; each beside a bare repository that gets what was told."""
 from __future__ import annotations
 
+import contextlib
 import glob
 import os
 import random
 import resource
 import signal
+import socket
+import struct
 import subprocess
 import threading
 import time
-from typing import Dict, List, Tuple
+import urllib.request
+from typing import Callable, Dict, Iterator, List, Tuple
 
+from attacks import MIB, command, entry
 from scenes.room import text, wait_for
-from served import ServerRoom, over_http
+from served import ServerRoom, everything, once, over_http
 
 
 def child_of(room: ServerRoom) -> int:
@@ -170,12 +175,11 @@ def fill(room: ServerRoom, site: str, size: int) -> Dict[str, str]:
     raise AssertionError("every push was taken")
 
 
-@over_http
-def a_small_disk(room: ServerRoom) -> None:
-    """Fills a file system of some megabytes with pushes: the last one is refused, the others last, a save that fails harms nothing."""
+def on_a_disk(room: ServerRoom, megabytes: int, play: Callable[[ServerRoom], None]) -> None:
+    """Plays with a server whose folder is on a file system of so many megabytes; without the right to mount one, nothing."""
     place = room.path("small")
     os.mkdir(place)
-    if subprocess.run(["mount", "-t", "tmpfs", "-o", "size=6m", "tmpfs", place], capture_output=True).returncode:
+    if subprocess.run(["mount", "-t", "tmpfs", "-o", f"size={megabytes}m", "tmpfs", place], capture_output=True).returncode:
         return
     try:
         room.stop()
@@ -184,12 +188,41 @@ def a_small_disk(room: ServerRoom) -> None:
             os.unlink(room.path(name))
         room.set_up()
         room.start()
-        fill_and_judge(room)
+        play(room)
     finally:
         room.process.kill()
         room.process.wait()
         # The child of a server that was killed takes a moment to end, and has files open there until then.
         wait_for(lambda: subprocess.run(["umount", place], capture_output=True).returncode == 0)
+
+
+@over_http
+def a_small_disk(room: ServerRoom) -> None:
+    """Fills a file system of some megabytes with pushes: the last one is refused, the others last, a save that fails harms nothing."""
+    on_a_disk(room, 6, fill_and_judge)
+
+
+@over_http
+def a_push_leaves_room_for_the_journal(room: ServerRoom) -> None:
+    """A push that would fill the disk is refused before it does, and those of others go on while its client is still there."""
+    on_a_disk(room, 40, a_push_that_fills)
+
+
+def a_push_that_fills(room: ServerRoom) -> None:
+    """Sends 38 of 40 megabytes of a push, and nothing more: another push has its three megabytes meanwhile."""
+    site = room.pushed()
+    room.commit(site, "Three megabytes", {"f": os.urandom(3 << 19).hex()})
+    blobs = b"".join(entry(3, MIB, os.urandom(MIB), level=0) for _ in range(38))
+    body = command() + b"PACK" + struct.pack(">II", 2, 100) + blobs
+    head = (f"POST /acme/other.git/git-receive-pack HTTP/1.1\r\nHost: x\r\nContent-Type: application/x-git-receive-pack-request\r\n"
+            f"Content-Length: {len(body) + MIB}\r\n").encode()
+    with room.socket() as peer:
+        peer.sendall(head + room.basic() + b"\r\n" + body)
+        time.sleep(1)
+        room.git(site, "push", "-q", room.url(), "main")
+        peer.shutdown(socket.SHUT_WR)
+        assert b"disk-reserve" in everything(peer)
+    room.same(site)
 
 
 def fill_and_judge(room: ServerRoom) -> None:
@@ -233,6 +266,30 @@ def push_and_restart_read_only(room: ServerRoom, site: str) -> None:
     done = room.run([room.server_program, "serve", room.served, "--program", room.program])
     assert done.returncode == 4 and "read-only file system" in text(done.stderr), (done.returncode, text(done.stderr))
     assert journal_of(room) == before
+
+
+@over_http
+def a_stop_while_it_starts(room: ServerRoom) -> None:
+    """SIGTERM ends a server at once whose child has not carried out the journal yet: with 0, and all is there at the next start."""
+    site = room.pushed()
+    crashed(room)
+    before = journal_of(room)
+    slow = room.path("slow")
+    with open(slow, "w", encoding="ascii") as file:
+        file.write(f'#!/bin/sh\n[ "$1" != host ] || exec sleep 300\nexec {room.program} "$@"\n')
+    os.chmod(slow, 0o755)
+    words = [room.server_program, "serve", room.served, "--http", "127.0.0.1:0", "--program", slow]
+    children = os.path.join(room.served, "work", "child-*", "pool")
+    # What the killed server has left stands there too, until it is swept.
+    left = set(glob.glob(children))
+    with subprocess.Popen(words, stdout=subprocess.PIPE, stderr=subprocess.STDOUT, env=room.environment) as starting:
+        wait_for(lambda: bool(set(glob.glob(children)) - left))
+        starting.terminate()
+        said = starting.communicate(timeout=20)[0]
+    assert starting.returncode == 0 and b"ends before it has started" in said, (starting.returncode, said)
+    assert journal_of(room) == before
+    room.start()
+    room.same(site)
 
 
 def crashed(room: ServerRoom) -> str:
@@ -326,7 +383,8 @@ def another_pool_file_is_refused(room: ServerRoom) -> None:
 
 @over_http
 def saves_beside_pushes_and_clones(room: ServerRoom) -> None:
-    """Saves again and again while two push and two clone: all of it goes well."""
+    """Saves again and again, with a second child each time, while two push and two clone: all of it goes well."""
+    room.serverd("limits", room.served, "second-child", "1")
     pushers = [Pusher(room, number) for number in range(2)]
     for pusher in pushers:
         assert pusher.push(), room.logged()
@@ -357,6 +415,63 @@ def saves_beside_pushes_and_clones(room: ServerRoom) -> None:
     kill(room, "both")
     for pusher in pushers:
         pusher.judge()
+
+
+@once
+def a_clone_during_a_save(room: ServerRoom) -> None:
+    """Stops the child inside a save of a pool file above `second-child`: clones, fetches and pages have all that was told, and a push waits and comes
+    through. Below the limit a clone waits."""
+    site = room.pushed()
+    room.serverd("limits", room.served, "second-child", "1M")
+    room.commit(site, "Large", {"large": os.urandom(1_000_000).hex()})
+    room.git(site, "push", "-q", "pool", "main")
+    with a_stopped_save(room) as save:
+        mirror = room.same(site)
+        assert room.run(["git", "fsck", "--strict"], mirror).returncode == 0
+        page = urllib.request.urlopen(authorized(room, "/acme/site")).read()
+        assert b"Large" in page, page
+        counts = urllib.request.urlopen(f"http://{room.http[0]}:{room.http[1]}/metrics").read()
+        assert b"\ngitpoold_answering 1\n" in counts, counts
+        room.commit(site, "Small", {"small": "x"})
+        push = subprocess.Popen(["git", "push", "-q", "pool", "main"], cwd=room.path(site), env=room.environment)
+        time.sleep(0.5)
+        assert push.poll() is None and save.poll() is None, "a push is told while the child is stopped"
+        assert room.tenant_refs()["refs/heads/main"] == room.name(site, "HEAD^")
+    assert (push.wait(60), save.wait(60)) == (0, 0), room.logged()
+    room.same(site)
+    room.serverd("limits", room.served, "second-child", "1G")
+    room.commit(site, "Later", {"small": "y"})
+    room.git(site, "push", "-q", "pool", "main")
+    with a_stopped_save(room):
+        clone = subprocess.Popen(["git", "clone", "-q", room.url(), room.path("waits")], env=room.environment)
+        time.sleep(0.5)
+        assert clone.poll() is None, "the stopped child answers"
+    assert clone.wait(60) == 0, room.logged()
+    kill(room, "both")
+    room.same(site)
+
+
+@contextlib.contextmanager
+def a_stopped_save(room: ServerRoom) -> Iterator["subprocess.Popen[bytes]"]:
+    """A save during which the child is stopped, and with it the save."""
+    child = child_of(room)
+    os.kill(child, signal.SIGSTOP)
+    save = subprocess.Popen([room.server_program, "save", room.served], env=room.environment)
+    try:
+        time.sleep(1)
+        assert save.poll() is None, "the save ends although the child is stopped"
+        yield save
+    finally:
+        os.kill(child, signal.SIGCONT)
+        save.wait(60)
+
+
+def authorized(room: ServerRoom, path: str) -> urllib.request.Request:
+    """A request of alice for a path."""
+    name, _, value = text(room.basic()).strip().partition(": ")
+    request = urllib.request.Request(f"http://{room.http[0]}:{room.http[1]}{path}")
+    request.add_header(name, value)
+    return request
 
 
 @over_http

@@ -139,3 +139,46 @@ def limits_are_told(room: ServerRoom) -> None:
     room.git(site, "commit", "-q", "-m", "Too deep")
     said = room.fails(site, "push", "pool", "main", says="256 components")
     assert "Traceback" not in text(said.encode())
+
+
+@once
+def lines_of_pushes_are_bounded(room: ServerRoom) -> None:
+    """A push with more bytes of refs than its user's requests may hold is refused, and git shows why; with fewer it is taken."""
+    site = room.pushed()
+    for at in range(200):
+        room.git(site, "update-ref", f"refs/heads/b{at}", "main")
+    before = room.tenant_refs()
+    room.serverd("limits", room.served, "line-bytes", "10K")
+    room.fails(site, "push", room.url(), "refs/heads/b*:refs/heads/b*", says="remote unpack failed: a limit is passed: this user's requests hold as many")
+    assert room.tenant_refs() == before
+    room.git(site, "push", "-q", room.url(), "b1", "b2")
+    room.serverd("limits", room.served, "line-bytes", "default")
+    room.git(site, "push", "-q", room.url(), "refs/heads/b*:refs/heads/b*")
+    room.same(site)
+
+
+@once
+def a_ref_of_65_kilobytes(room: ServerRoom) -> None:
+    """A ref whose name is nearly as long as a packet is refused, and the report of the other refs comes whole."""
+    site = room.pushed()
+    before = room.tenant_refs()
+    long = "main:refs/heads/" + "x" * 65_300
+    said = room.fails(site, "push", room.url(), "main:refs/heads/fine", long, "main:refs/heads/other", says="a ref name has more than 1024 bytes")
+    for ref in ("fine", "other"):
+        assert f"main -> {ref} (nothing was pushed, for refs/heads/xxx" in said, said[-1000:]
+    assert "failed to report" not in said and room.tenant_refs() == before, said[-1000:]
+
+
+@once
+def files_of_pushes_are_bounded(room: ServerRoom) -> None:
+    """A push whose objects are more than its user's pushes may have in temporary files is refused; a small one is taken."""
+    site = room.pushed()
+    before = room.tenant_refs()
+    room.serverd("limits", room.served, "spool-bytes", "1M")
+    room.commit(site, "Three megabytes", {"f": os.urandom(3 << 19).hex()})
+    room.fails(site, "push", room.url(), "main", says="remote unpack failed: a limit is passed: this user's pushes have as many")
+    assert room.tenant_refs() == before
+    room.git(site, "push", "-q", room.url(), "main~1:refs/heads/small")
+    room.serverd("limits", room.served, "spool-bytes", "default")
+    room.git(site, "push", "-q", room.url(), "main", ":refs/heads/small")
+    room.same(site)

@@ -71,7 +71,7 @@ def tries(room: ServerRoom, numbers: "Iterator[int]", told: List[bytes]) -> None
 
 @over_http
 def a_thousand_wrong_passwords(room: ServerRoom) -> None:
-    """From hundreds of addresses at once: each is refused in the same words, and who knows the password is served meanwhile.
+    """From hundreds of addresses at once: each is refused in the same words, or told to come again, and who knows the password is served meanwhile.
 
     GITPOOLD_WRONG says how many passwords are tried; without it, 60.
     """
@@ -87,8 +87,8 @@ def a_thousand_wrong_passwords(room: ServerRoom) -> None:
     for thread in threads:
         thread.join()
     answers = {re.sub(rb"\r\nDate: [^\r]*", b"", it) for it in told}
-    assert len(told) == count and len(answers) == 1, (len(told), answers)
-    assert answers.pop().startswith(b"HTTP/1.1 401 ")
+    assert len(told) == count and len(answers) <= 2, (len(told), answers)
+    assert {it[:13] for it in answers} <= {b"HTTP/1.1 401 ", b"HTTP/1.1 503 "}, answers
     assert room.memory() < 300 * MIB, room.memory() // MIB
     asks(room, before)
 

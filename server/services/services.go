@@ -11,6 +11,7 @@ import (
 	"gitpoold/child"
 	"gitpoold/daily"
 	"gitpoold/hooks"
+	"gitpoold/limits"
 	"gitpoold/pack"
 	"gitpoold/pktline"
 	"gitpoold/receivepack"
@@ -73,16 +74,31 @@ func (u Use) Advertise(ctx context.Context) error {
 // Serve answers what follows: one request, or a whole session. It writes each ref that a push changed to the log, and lets hooks be told.
 func (u Use) Serve(ctx context.Context, isStateless bool) error {
 	ctx = child.Charging(ctx, u.Meter.AddChild)
+	held := lines{u.Site.Limits.Lines(u.User, u.Address)}
+	defer held.Free()
 	if u.Service == UploadPack {
 		in := bufio.NewReaderSize(u.In, 1<<16)
-		return uploadpack.Server{MaySend: u.mayGoOn}.Serve(ctx, u.Tenant, in, u.Out, u.Version, isStateless)
+		return uploadpack.Server{MaySend: u.mayGoOn, Lines: held}.Serve(ctx, u.Tenant, in, u.Out, u.Version, isStateless)
 	}
 	in := bufio.NewReaderSize(&refusing{from: u.In, mayGoOn: u.mayGoOn}, 1<<16)
-	limits := pack.Usual
-	limits.PackBytes = u.Site.Limits.Get().RequestBytes
-	result, err := receivepack.Server{Folder: u.Site.Work, Limits: limits}.Serve(ctx, u.Tenant, in, u.Out)
+	spool := u.Site.Limits.Spool(u.User, u.Address)
+	defer spool.Free()
+	most := pack.Usual
+	most.MayGrow = u.mayGrow(spool)
+	most.PackBytes = u.Site.Limits.Get().RequestBytes
+	result, err := receivepack.Server{Folder: u.Site.Work, Limits: most, Lines: held}.Serve(ctx, u.Tenant, in, u.Out)
 	u.tell(result)
 	return err
+}
+
+// lines tells a client in a sentence that its user's requests hold too many lines.
+type lines struct{ *limits.Held }
+
+func (l lines) Hold(bytes int64) error {
+	if err := l.Held.Hold(bytes); err != nil {
+		return uploadpack.Refused{Why: err.Error()}
+	}
+	return nil
 }
 
 // mayGoOn refuses what goes beyond what the user may take in a day.
@@ -91,6 +107,20 @@ func (u Use) mayGoOn() error {
 		return uploadpack.Refused{Why: err.Error()}
 	}
 	return nil
+}
+
+// mayGrow gives what lets the temporary file of a push grow: as far as its user's pushes may have such files, and the journal keeps its room on the disk.
+func (u Use) mayGrow(spool *limits.Held) func(bytes int64) error {
+	return func(bytes int64) error {
+		err := u.Site.Limits.MayGrow(u.Site.Work)
+		if err == nil {
+			err = spool.Hold(bytes)
+		}
+		if err != nil {
+			return uploadpack.Refused{Why: err.Error()}
+		}
+		return nil
+	}
 }
 
 // refusing reads until it may not go on, and gives that error once. What is read after it is the rest of a push that was refused.

@@ -145,6 +145,41 @@ func refusesChanges(t testing.TB, follower *Set) {
 	}
 }
 
+// TestPoolFilesFromBeforeAMove starts a server on copies of the pool files while a replica follows, so that the logs keep what came before the
+// last save: copies from before a move are refused, and those from before a save without one have all that was told.
+func TestPoolFilesFromBeforeAMove(t *testing.T) {
+	c := inRedis(t, redistest.Start(t), redistest.Start(t))
+	leader := opened(t, c)
+	defer func() { leader.Close(background) }()
+	for _, tenant := range []string{"a", "b"} {
+		must(t, push(leader, tenant, "m0"))
+	}
+	must(t, leader.Save(background))
+	follower := opened(t, followerOf(t, c, 0))
+	defer follower.Close(background)
+	before := elsewhere(t, c)
+	must(t, leader.Move(background, "a", 3-leader.ShardOf("a")))
+	after := elsewhere(t, c)
+	must(t, push(leader, "a", "m1"))
+	must(t, leader.Save(background))
+	hasMessages(t, follower, "a", "m0", "m1")
+	crash(leader)
+	if s, err := Open(before); err == nil || !strings.Contains(err.Error(), "no record goes on from the pool file") {
+		t.Fatal("a start goes on from pool files that lack what was moved: ", err, s)
+	}
+	leader = opened(t, after)
+	hasMessages(t, leader, "a", "m0", "m1")
+	hasMessages(t, leader, "b", "m0")
+}
+
+// elsewhere gives the configuration of a server on another machine, with copies of the pool files of now.
+func elsewhere(t testing.TB, leader Config) Config {
+	t.Helper()
+	c := followerOf(t, leader, 0)
+	c.Follow = nil
+	return c
+}
+
 // TestReadsOfAReplicaAreNeverOlder pushes to and moves tenants while readers ask a replica: no answer is older than what was told before.
 func TestReadsOfAReplicaAreNeverOlder(t *testing.T) {
 	servers := []*redistest.Server{redistest.Start(t), redistest.Start(t)}

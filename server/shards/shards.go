@@ -111,6 +111,7 @@ func Open(config Config) (*Set, error) {
 	if len(config.Logs) > 0 && len(config.Logs) != count {
 		return nil, fmt.Errorf("the folder has %d shards, and there are %d logs: %w", count, len(config.Logs), ErrLogs)
 	}
+	config.Store.Turn = make(chan struct{}, 1)
 	s := &Set{config: config, operator: make(chan struct{}, 1), moving: map[string]chan struct{}{}, beginning: map[string]int{}, settling: map[string]bool{},
 		stopping: make(chan struct{})}
 	s.isFollowing.Store(config.Follow != nil)

@@ -90,10 +90,12 @@ func (s *server) config(ctx context.Context, hostKey ssh.Signer) *ssh.ServerConf
 			return nil, errDenied
 		},
 		PasswordCallback: func(c ssh.ConnMetadata, password []byte) (*ssh.Permissions, error) {
-			if s.Access.Password(ctx, c.User(), string(password), host(c.RemoteAddr())) {
-				return permissions(c.User()), nil
+			within, stop := context.WithTimeout(ctx, s.Limits.Get().Handshake)
+			defer stop()
+			if s.Access.Password(within, c.User(), string(password), host(c.RemoteAddr())) != nil {
+				return nil, errDenied
 			}
-			return nil, errDenied
+			return permissions(c.User()), nil
 		},
 	}
 	config.AddHostKey(hostKey)

@@ -42,6 +42,32 @@ type follower struct {
 	room   string
 }
 
+// holdTurn lets a store that follows take no record until the call that it gives: at a merge that needs another child, for which it would not wait. It
+// does not wait for longer than the context lasts.
+func (s *Store) holdTurn(ctx context.Context) (end func()) {
+	if s.follower == nil {
+		return func() {}
+	}
+	for !s.follower.turn.TryLock() {
+		if ctx.Err() != nil {
+			return func() {}
+		}
+		time.Sleep(time.Millisecond)
+	}
+	return s.follower.turn.Unlock
+}
+
+// withStreams gives the tenants of which the child may have a stream. The turn is held.
+func (f *follower) withStreams() (tenants []string) {
+	if f.replay == nil {
+		return nil
+	}
+	for tenant := range f.replay.streams {
+		tenants = append(tenants, tenant)
+	}
+	return tenants
+}
+
 // openFollowed opens the journal of a store that follows.
 func (s *Store) openFollowed(options journal.Options, pool journal.Digest) error {
 	opened, err := journal.Follow(options, pool, s.config.Follows)
@@ -69,8 +95,9 @@ func (s *Store) carryOutFollowed(process *child.Process, room string, pool journ
 	if err != nil {
 		return true, err
 	}
-	r := &replay{store: s, process: process, fate: fate, streams: map[string]*replayed{}, answers: map[uint64]frames.Answer{},
-		ended: map[string]bool{}, fed: map[uint64]int64{}}
+	r := newOngoing(process, fate)
+	r.answered = func(record journal.Record, answer frames.Answer) { s.keepAgain(record.Step, answer) }
+	r.brought = s.addFed
 	if err := s.readSizes(process); err != nil {
 		return true, err
 	}
@@ -240,7 +267,7 @@ func (s *Store) followSave(r *replay, it journal.Followed) error {
 // errTakenBack says that the log takes back what the child has carried out, so that another one has to begin anew.
 var errTakenBack = errors.New("the log takes back what was carried out")
 
-// endFollowed notes that a stream of a log that is followed has ended.
+// endFollowed notes that a stream of a journal that goes on has ended.
 func (r *replay) endFollowed(record journal.Record, fed int64) {
 	if r.ended != nil {
 		r.ended[record.Step.Tenant], r.fed[record.Number] = true, fed
@@ -279,20 +306,21 @@ func (s *Store) Fresh(ctx context.Context) error {
 	return err
 }
 
-// enterFresh goes through the gate `steps` where the child has what the log had when this was called.
-func (s *Store) enterFresh(ctx context.Context) error {
+// enterFresh goes through the gate `steps` where the child has what the log had when this was called, unless it gives a second child that answers
+// questions.
+func (s *Store) enterFresh(ctx context.Context) (beside *child.Process, err error) {
 	for s.isFollowing() {
 		number, err := s.follower.log.Fresh(ctx)
 		if err != nil {
-			return err
+			return nil, err
 		}
 		if err := s.enter(ctx); err != nil || s.follower.log.HasCome(number) {
-			return err
+			return nil, err
 		}
 		// Another child was started meanwhile.
 		s.steps.leave()
 	}
-	return s.enter(ctx)
+	return s.enterOrBeside(ctx)
 }
 
 // Silence is for how long nothing was seen of the server that writes the log.

@@ -57,6 +57,32 @@ func saves(t testing.TB, leader, follower *Store) {
 	}
 }
 
+// TestARescueWaitsForRecords saves what a follower has while that takes records: these may need another child for a merge, which nobody keeps from them.
+func TestARescueWaitsForRecords(t *testing.T) {
+	server := redistest.Start(t)
+	c := overRedis(t, server, plain(t, folder(t)))
+	leader := opened(t, c)
+	defer leader.Close(background)
+	of := followerOf(t, c)
+	follower := opened(t, of)
+	defer follower.Close(background)
+	pushAll(t, leader, "m0")
+	hasMessages(t, follower, "a", "refs/heads/main", []string{"m0"})
+	follower.follower.turn.Lock()
+	done := make(chan struct{})
+	go func() { follower.Rescue(); close(done) }()
+	if !waits(done) {
+		t.Fatal("a rescue does not wait")
+	}
+	must(t, follower.beginMaintenance(background))
+	follower.endMaintenance()
+	follower.follower.turn.Unlock()
+	<-done
+	if _, err := os.Stat(filepath.Join(of.Folder, rescuedName)); err != nil {
+		t.Fatal(err)
+	}
+}
+
 // TestAFollowerComesToTheSameBytes has a leader with pushes of several tenants at once, streams that stay open over a save, streams that are given
 // up and requests of the operator. The follower answers as the leader does, and comes to the same pool files.
 func TestAFollowerComesToTheSameBytes(t *testing.T) {

@@ -3,13 +3,17 @@ package store
 import (
 	"context"
 	"sync"
+
+	"gitpoold/child"
 )
 
 // gate lets many in at once, or shuts until all are out. One caller at a time may shut it.
 type gate struct {
-	mutex   sync.Mutex
-	inside  int
-	isShut  bool
+	mutex  sync.Mutex
+	inside int
+	isShut bool
+	// beside answers questions while the gate is shut; nil where there is no such child.
+	beside  *child.Process
 	changed chan struct{}
 }
 
@@ -32,6 +36,42 @@ func (g *gate) enter(ctx context.Context) error {
 		}
 		return !g.isShut
 	})
+}
+
+// enterOrBeside goes in, unless it gives a child that answers questions while the gate is shut.
+func (g *gate) enterOrBeside(ctx context.Context) (beside *child.Process, err error) {
+	err = g.wait(ctx, func() bool {
+		if beside = g.beside; beside == nil && !g.isShut {
+			g.inside++
+			return true
+		}
+		return beside != nil
+	})
+	return beside, err
+}
+
+// putBeside lets a child answer questions until the gate, which is shut, is open again.
+func (g *gate) putBeside(process *child.Process) {
+	g.mutex.Lock()
+	defer g.mutex.Unlock()
+	g.beside = process
+	g.tell()
+}
+
+// dropBeside lets a child that has ended answer no more.
+func (g *gate) dropBeside(process *child.Process) {
+	g.mutex.Lock()
+	defer g.mutex.Unlock()
+	if g.beside == process {
+		g.beside = nil
+	}
+}
+
+// isAnswering tells whether who asks a question has not to wait.
+func (g *gate) isAnswering() bool {
+	g.mutex.Lock()
+	defer g.mutex.Unlock()
+	return !g.isShut || g.beside != nil
 }
 
 // tryEnter goes in unless the gate is shut.
@@ -68,7 +108,7 @@ func (g *gate) shut(ctx context.Context) error {
 func (g *gate) open() {
 	g.mutex.Lock()
 	defer g.mutex.Unlock()
-	g.isShut = false
+	g.isShut, g.beside = false, nil
 	g.tell()
 }
 

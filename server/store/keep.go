@@ -69,7 +69,8 @@ func (s *Store) isDue(now Rhythm, last time.Time) bool {
 	return s.journal.Bytes() > now.JournalBytes || s.journal.IsHealedBySave() || s.isCopyLate.Load() || s.journal.HasSteps() && time.Since(last) > now.SaveEvery
 }
 
-// endStalled ends a child that works without an answer for too long; `watch`, or the save that waits for it, starts another one.
+// endStalled ends a child that works without an answer for too long; `watch`, or the save that waits for it, starts another one. Without a second
+// one questions wait.
 func (s *Store) endStalled(ctx context.Context, rhythm func() Rhythm) {
 	ticker := time.NewTicker(lookEvery)
 	defer ticker.Stop()
@@ -80,11 +81,15 @@ func (s *Store) endStalled(ctx context.Context, rhythm func() Rhythm) {
 		case <-ticker.C:
 		}
 		s.mutex.Lock()
-		process := s.newest
+		process, second := s.newest, s.second
 		s.mutex.Unlock()
 		if silent := process.Stalled(); silent > rhythm().Step {
 			s.config.Tell("the child has not answered for %.0f s and is replaced", silent.Seconds())
 			process.Kill()
+		}
+		if second != nil && second.Stalled() > rhythm().Step {
+			s.config.Tell("the second child has not answered for %.0f s and is ended", second.Stalled().Seconds())
+			second.Kill()
 		}
 	}
 }

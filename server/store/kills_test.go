@@ -38,7 +38,7 @@ const (
 func tell(words ...any) { fmt.Println(words...) }
 
 func pushes(folder string) {
-	s, err := Open(Config{Folder: folder, Program: os.Getenv("GITPOOL"), Tell: func(string, ...any) {}})
+	s, err := Open(always(Config{Folder: folder, Program: os.Getenv("GITPOOL"), Tell: func(string, ...any) {}}))
 	if err != nil {
 		tell("closed", err)
 		os.Exit(1)
@@ -258,7 +258,7 @@ func messages(t *testing.T, s *Store, tenant string) map[string]int {
 	return found
 }
 
-// TestKills kills the server, the child and both at fault points. GITPOOLD_KILLS says how many points of each are tried; without it
+// TestKills kills the server, the child, both, and a second child at fault points. GITPOOLD_KILLS says how many points of each are tried; without it
 // some of them are.
 func TestKills(t *testing.T) {
 	log := t.TempDir() + "/log"
@@ -280,7 +280,7 @@ func TestKills(t *testing.T) {
 	if number, err := strconv.Atoi(os.Getenv("GITPOOLD_KILLS")); err == nil {
 		wanted = number
 	}
-	for _, whom := range []string{"server", "child", "both"} {
+	for _, whom := range []string{"server", "child", "both", "second"} {
 		for i := 0; i < wanted; i++ {
 			killAt(t, whom, 1+i*points/wanted)
 		}

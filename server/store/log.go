@@ -135,13 +135,17 @@ const rescueWithin = 10 * time.Second
 
 // rescue saves what the child has beside the pool file.
 func (s *Store) rescue() {
+	close(s.rescuing)
 	ctx, stop := context.WithTimeout(context.Background(), rescueWithin)
 	defer stop()
+	endTurn := s.holdTurn(ctx)
+	defer endTurn()
 	err := s.beginMaintenance(ctx)
 	if err == nil {
 		defer s.endMaintenance()
 		if err = s.steps.shut(ctx); err == nil {
 			defer s.steps.open()
+			s.abandonAll(ctx)
 			err = s.saveTo(s.process, s.folder(rescuedName))
 			s.rescueAnswers()
 		}
@@ -151,6 +155,26 @@ func (s *Store) rescue() {
 		return
 	}
 	s.config.Tell("%s has all pushes that were told", s.folder(rescuedName))
+}
+
+// abandonAll lets the child give up the streams that it has, so that the file has their last checkpoints, which readers have seen.
+func (s *Store) abandonAll(ctx context.Context) {
+	for _, tenant := range s.withStreams() {
+		giveUp(ctx, s.process, tenant)
+	}
+}
+
+// withStreams gives the tenants of which the child may have a stream.
+func (s *Store) withStreams() (tenants []string) {
+	if s.isFollowing() {
+		return s.follower.withStreams()
+	}
+	s.mutex.Lock()
+	defer s.mutex.Unlock()
+	for tenant := range s.open {
+		tenants = append(tenants, tenant)
+	}
+	return tenants
 }
 
 func (s *Store) saveTo(process *child.Process, path string) error {
@@ -189,14 +213,29 @@ func (s *Store) bringCopy() error {
 		return err
 	}
 	if digest, err := poolfile.Digest(s.config.Copy); err == nil && digest == pool {
-		return nil
+		return dropUnfinished(s.config.Copy)
 	}
 	return s.copyPool()
 }
 
+// dropUnfinished removes the file that a kill left of a copy to a path. What is no file is none of ours.
+func dropUnfinished(to string) error {
+	info, err := os.Lstat(unfinished(to))
+	if err == nil && info.Mode().IsRegular() {
+		err = os.Remove(unfinished(to))
+	}
+	if errors.Is(err, os.ErrNotExist) {
+		return nil
+	}
+	return err
+}
+
+// unfinished is where a copy to a path is until it is whole.
+func unfinished(to string) string { return to + ".new" }
+
 // copySynced copies a file, which appears whole under its new name.
 func copySynced(from, to string) error {
-	next := to + ".new"
+	next := unfinished(to)
 	if err := os.Remove(next); err != nil && !errors.Is(err, os.ErrNotExist) {
 		return err
 	}

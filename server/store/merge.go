@@ -131,10 +131,11 @@ func (s *Store) merge(ctx context.Context, file string) error {
 
 // writeTo has the child write its pool file, and gives it another name.
 func (s *Store) writeTo(ctx context.Context, path string) error {
-	if err := s.steps.shut(ctx); err != nil {
+	open, err := s.shutForSave(ctx)
+	if err != nil {
 		return err
 	}
-	defer s.steps.open()
+	defer open()
 	if _, err := s.requestOf(s.process, frames.Step{Kind: frames.Save, Body: frames.AsOpened}); err != nil {
 		return fmt.Errorf("%w: %v", errNotSaved, err)
 	}
@@ -159,6 +160,7 @@ func (s *Store) startOn(file string) (started, error) {
 	if err != nil {
 		return started{}, err
 	}
+	faultpoint.SetChild(process.Pid())
 	it := started{process, room}
 	if _, err := s.requestOf(process, frames.Step{Kind: frames.Sizes}); err != nil {
 		it.end()
@@ -187,7 +189,20 @@ func (s *Store) putInPlace(merged string, next started) error {
 	if err := s.copyPool(); err != nil {
 		return err
 	}
+	if err := s.noteMerged(); err != nil {
+		return err
+	}
 	return s.journal.Drop()
+}
+
+// noteMerged lets no later start go on from an older pool file, such as one that was copied before and of which a log in Redis keeps the records.
+func (s *Store) noteMerged() error {
+	number, err := s.journal.Append(frames.Step{Kind: journal.Merged})
+	if err != nil {
+		return err
+	}
+	faultpoint.Here("before a merge is noted")
+	return s.journal.Sync(number)
 }
 
 // exchange exchanges the pool file and the child, and gives the child before. From the renaming of the file on, the store has what was merged;
@@ -212,7 +227,7 @@ func (s *Store) exchange(merged string, next started) (old started, err error) {
 	}
 	faultpoint.Here("after a merged pool file is renamed")
 	old = started{s.process, s.room}
-	s.process, s.room = next.process, next.room
+	s.process, s.room, s.losses = next.process, next.room, s.journal.Losses()
 	s.mutex.Lock()
 	s.newest = next.process
 	s.mutex.Unlock()

@@ -118,7 +118,8 @@ func TestAnotherMachineGoesOn(t *testing.T) {
 	}
 }
 
-// TestALostEndIsRescued has a Redis that loses pushes that were told: the server stops, and leaves a pool file that has them.
+// TestALostEndIsRescued has a Redis that loses pushes that were told, and the checkpoint of a stream that is open: the server stops, and leaves a pool
+// file that has them.
 func TestALostEndIsRescued(t *testing.T) {
 	server := redistest.Start(t)
 	c := overRedis(t, server, plain(t, folder(t)))
@@ -127,6 +128,11 @@ func TestALostEndIsRescued(t *testing.T) {
 	pushAll(t, s, "m0", "m1")
 	size := server.LogBytes()
 	pushAll(t, s, "m2", "m3")
+	open, err := s.Begin(background, "open", Checkpoints)
+	must(t, err)
+	must(t, fed(open, append(commitOn("refs/heads/main", "one", ""), "checkpoint\n"...)))
+	must(t, fed(open, commitOn("refs/heads/main", "two", "")))
+	must(t, s.journal.Sync(s.journal.Number()))
 	server.Lose(size)
 	waitFor(t, why, false)
 	endStopped(s)
@@ -135,6 +141,7 @@ func TestALostEndIsRescued(t *testing.T) {
 	s = opened(t, other)
 	defer s.Close(background)
 	hasMessages(t, s, "a", "refs/heads/main", []string{"m0", "m1", "m2", "m3"})
+	hasMessages(t, s, "open", "refs/heads/main", []string{"one"})
 }
 
 // TestASilentRedisIsWaitedFor stops Redis inside a push: the push is told to be unknown, reading goes on, and what Redis has then is served.

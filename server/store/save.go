@@ -32,6 +32,8 @@ func (s *Store) Save(ctx context.Context) error {
 	if s.isFollowing() {
 		return nil
 	}
+	endTurn := s.takeTurn(ctx)
+	defer endTurn()
 	if err := s.beginMaintenance(ctx); err != nil {
 		return err
 	}
@@ -44,7 +46,7 @@ func (s *Store) Save(ctx context.Context) error {
 		return nil
 	}
 	began := time.Now()
-	err := s.save(ctx)
+	err := s.save(ctx, endTurn)
 	s.noteSave(began, err)
 	return err
 }
@@ -71,8 +73,11 @@ func (s *Store) beginMaintenance(ctx context.Context) error {
 
 func (s *Store) endMaintenance() { <-s.maintain }
 
-func (s *Store) save(ctx context.Context) error {
-	if err := s.writeAndBegin(ctx); err != nil {
+// save saves, and calls `written` when the pool file is written and not in its place yet.
+func (s *Store) save(ctx context.Context, written func()) error {
+	err := s.writeAndBegin(ctx)
+	written()
+	if err != nil {
 		return err
 	}
 	if err := s.renamePool(); err != nil {
@@ -99,12 +104,13 @@ func (s *Store) renamePool() error {
 }
 
 // writeAndBegin has the child write the pool file, and begins the segment of what comes after it. No step comes in between, so what is in
-// the file and what is in the segment are parted for all tenants at one place. The child answers nobody while it writes.
+// the file and what is in the segment are parted for all tenants at one place. The child answers nobody while it writes; a second one may.
 func (s *Store) writeAndBegin(ctx context.Context) error {
-	if err := s.steps.shut(ctx); err != nil {
+	open, err := s.shutForSave(ctx)
+	if err != nil {
 		return err
 	}
-	defer s.steps.open()
+	defer open()
 	digest, err := s.writePool(s.process, s.room)
 	if err != nil {
 		return err

@@ -32,13 +32,14 @@ func (s *Store) start() error {
 	if err != nil {
 		return err
 	}
+	faultpoint.SetChild(process.Pid())
 	if err := s.carryOut(process, room, journal.Digest(digest)); err != nil {
 		process.Kill()
 		os.RemoveAll(room)
 		return &loadError{err, said.last()}
 	}
 	os.RemoveAll(s.room)
-	s.process, s.room = process, room
+	s.process, s.room, s.losses = process, room, s.journal.Losses()
 	s.mutex.Lock()
 	s.newest = process
 	s.mutex.Unlock()
@@ -72,7 +73,6 @@ func (s *Store) startChild(pool string, said io.Writer) (*child.Process, string,
 		os.RemoveAll(room)
 		return nil, "", err
 	}
-	faultpoint.SetChild(process.Pid())
 	return process, room, nil
 }
 
@@ -192,17 +192,30 @@ func (s *Store) takeBackUntold() {
 
 // replay is the journal on its way to a new child.
 type replay struct {
-	store   *Store
 	process *child.Process
 	fate    fate
 	streams map[string]*replayed
 	waiting []sent
-	// answers are those that somebody may wait for.
-	answers map[uint64]frames.Answer
-	// ended has the tenants whose last stream has ended, where the log is followed: what comes of other streams is not known yet. Else it is nil.
+	// answered is told the answers that somebody may wait for, and brought how many bytes a stream has brought to a tenant.
+	answered func(record journal.Record, answer frames.Answer)
+	brought  func(tenant string, bytes int64)
+	// ended has the tenants whose last stream has ended, where the journal goes on: what comes of other streams is not known yet. Else it is nil.
 	// fed has the bytes of streams whose Ends have no answer yet, by the numbers of these.
 	ended map[string]bool
 	fed   map[uint64]int64
+}
+
+// newReplay is for a journal that is carried out to its end, of which nobody is told.
+func newReplay(process *child.Process, fate fate) *replay {
+	return &replay{process: process, fate: fate, streams: map[string]*replayed{},
+		answered: func(journal.Record, frames.Answer) {}, brought: func(string, int64) {}}
+}
+
+// newOngoing is for a journal that goes on, of which nobody is told.
+func newOngoing(process *child.Process, fate fate) *replay {
+	r := newReplay(process, fate)
+	r.ended, r.fed = map[string]bool{}, map[uint64]int64{}
+	return r
 }
 
 // fate is what became of what is in the journal, by the numbers of records: the Opens whose streams have an End that was not taken back,
@@ -215,7 +228,7 @@ type replayed struct {
 	hasEnd    bool
 	isLeftOut bool
 	fed       int64
-	// held is the last piece of a Whole stream, where the log is followed: its refs change with that piece, so it waits for the End.
+	// held is the last piece of a Whole stream, where the journal goes on: its refs change with that piece, so it waits for the End.
 	held *journal.Record
 }
 
@@ -237,7 +250,11 @@ func (s *Store) carryOut(process *child.Process, room string, pool journal.Diges
 	if err != nil {
 		return err
 	}
-	r := &replay{store: s, process: process, fate: fate, streams: map[string]*replayed{}, answers: map[uint64]frames.Answer{}}
+	r, answers := newReplay(process, fate), map[uint64]frames.Answer{}
+	r.answered = func(record journal.Record, answer frames.Answer) {
+		answers[record.Number] = answer
+		s.keepAgain(record.Step, answer)
+	}
 	// It is answered when the child has loaded the pool file.
 	if err := s.readSizes(process); err != nil {
 		return err
@@ -252,7 +269,7 @@ func (s *Store) carryOut(process *child.Process, room string, pool journal.Diges
 		r.drop(tenant)
 		s.noteGivenUp(tenant)
 	}
-	s.tellEnds(r.answers)
+	s.tellEnds(answers)
 	return s.readSizes(process)
 }
 
@@ -370,7 +387,7 @@ func (r *replay) drop(tenant string) {
 	stream := r.streams[tenant]
 	delete(r.streams, tenant)
 	if r.ended != nil && stream.form == Checkpoints {
-		r.store.addFed(tenant, stream.fed)
+		r.brought(tenant, stream.fed)
 	}
 	if !stream.isLeftOut {
 		giveUp(context.Background(), r.process, tenant)
@@ -403,23 +420,20 @@ func (r *replay) settle(most int) error {
 		if outOfMemory(answers) {
 			return fmt.Errorf("the child has no memory to carry out the journal: %w", &Refused{90})
 		}
-		r.answered(it.record, answers[0])
+		r.note(it.record, answers[0])
 	}
 	return nil
 }
 
-// answered notes an answer that somebody may wait for, or what a stream has brought to a tenant.
-func (r *replay) answered(record journal.Record, answer frames.Answer) {
+// note tells an answer that somebody may wait for, or what a stream has brought to a tenant.
+func (r *replay) note(record journal.Record, answer frames.Answer) {
 	if isAwaited(record.Step.Kind) {
-		if r.ended == nil {
-			r.answers[record.Number] = answer
-		}
-		r.store.keepAgain(record.Step, answer)
+		r.answered(record, answer)
 	}
 	if fed, has := r.fed[record.Number]; has {
 		delete(r.fed, record.Number)
 		if answer.Status == frames.Ok {
-			r.store.addFed(record.Step.Tenant, fed)
+			r.brought(record.Step.Tenant, fed)
 		}
 	}
 }

@@ -59,6 +59,10 @@ type Config struct {
 	// Follows is what a change is told while the store follows a log in Redis that another server writes; nil where this server takes the log
 	// over at its start.
 	Follows error
+	// SecondChild gives the size of a pool file from which on a second child answers questions while the first one saves, 0 for never; nil is never.
+	SecondChild func() int64
+	// Turn has room for one: the shard whose save has a second child, so that there is one at a time. It is nil for a store alone.
+	Turn chan struct{}
 	// Stop ends the server at once: the log in Redis is another server's now, or lost records. It does not return.
 	Stop func(why error)
 	// Tell writes a line for the operator.
@@ -77,11 +81,14 @@ type Store struct {
 	closing  chan struct{}
 	once     sync.Once
 	rescued  sync.Once
+	rescuing chan struct{}
 
 	// Who is inside `steps` may use the process; while the gate is shut, it is replaced, saves, or carries out a request of the operator.
+	// `losses` is how often the journal had lost records when the process began.
 	steps   *gate
 	process *child.Process
 	room    string
+	losses  uint64
 
 	// answers are those of streams with tokens; `keeping` has the Ends whose answers are not among them yet.
 	answers *answers.Kept
@@ -92,6 +99,7 @@ type Store struct {
 
 	mutex  sync.Mutex
 	newest *child.Process
+	second *child.Process
 	open   map[string]*Stream
 	ends   map[uint64]end
 	sizes  map[string]Size
@@ -101,6 +109,8 @@ type Store struct {
 	taken  atomic.Int64
 	// isCopyLate says that the pool file could not be copied.
 	isCopyLate atomic.Bool
+	// isAlone says that the last save had no second child, although it should have had one; whoever saves sets it.
+	isAlone bool
 }
 
 // Counts are what a store did since its start.
@@ -116,7 +126,7 @@ func Open(config Config) (*Store, error) {
 		return nil, err
 	}
 	s := &Store{config: config, locks: held, maintain: make(chan struct{}, 1), wanted: make(chan struct{}, 1),
-		stopping: make(chan struct{}), closing: make(chan struct{}), steps: newGate(), streams: newGate(),
+		stopping: make(chan struct{}), closing: make(chan struct{}), rescuing: make(chan struct{}), steps: newGate(), streams: newGate(),
 		open: map[string]*Stream{}, ends: map[uint64]end{}}
 	if err := s.begin(); err != nil {
 		held.close()
@@ -132,6 +142,9 @@ func (s *Store) begin() error {
 		}
 	}
 	if err := sweep(s.work()); err != nil {
+		return err
+	}
+	if err := dropUnfinished(s.folder(rescuedName)); err != nil {
 		return err
 	}
 	digest, err := poolfile.Digest(s.folder("pool"))
@@ -221,25 +234,47 @@ type Answers interface {
 	Wait(ctx context.Context) ([]frames.Answer, error)
 }
 
-// Ask sends questions to the child in one batch. It waits while the child is replaced, as long as the context lasts. A store that follows a log
-// first comes to what the log has; else it is journal.ErrBehind.
+// Ask sends questions to the child in one batch, or to the second one while the first one saves. It waits while the child is replaced, as long as
+// the context lasts. A store that follows a log first comes to what the log has; else it is journal.ErrBehind.
 func (s *Store) Ask(ctx context.Context, class child.Class, steps ...frames.Step) (Answers, error) {
-	if err := s.enterFresh(ctx); err != nil {
-		return nil, err
+	for {
+		beside, err := s.enterFresh(ctx)
+		if err != nil {
+			return nil, err
+		}
+		batch, err := s.askOf(ctx, beside, class, steps)
+		if beside == nil || !errors.Is(err, child.ErrGone) {
+			s.taken.Add(int64(len(steps)))
+			return batch, err
+		}
+		// It has ended, or is about to.
+		s.steps.dropBeside(beside)
+	}
+}
+
+// askOf sends questions to a second child, or to the first one; then the caller has entered the gate `steps`, and is out afterwards.
+func (s *Store) askOf(ctx context.Context, beside *child.Process, class child.Class, steps []frames.Step) (*Batch, error) {
+	if beside != nil {
+		return beside.Send(ctx, class, steps...)
 	}
 	defer s.steps.leave()
-	s.taken.Add(int64(len(steps)))
 	return s.process.Send(ctx, class, steps...)
 }
 
 // enter goes through the gate `steps`, unless the store closes.
 func (s *Store) enter(ctx context.Context) error {
-	select {
-	case <-s.closing:
+	if s.isClosing() {
 		return ErrClosed
-	default:
-		return s.steps.enter(ctx)
 	}
+	return s.steps.enter(ctx)
+}
+
+// enterOrBeside does the same for a question, unless it gives a second child that answers that.
+func (s *Store) enterOrBeside(ctx context.Context) (*child.Process, error) {
+	if s.isClosing() {
+		return nil, ErrClosed
+	}
+	return s.steps.enterOrBeside(ctx)
 }
 
 func (s *Store) count(change func(*Counts)) {
@@ -297,7 +332,8 @@ type State struct {
 	LastSegment   uint64
 	Records       uint64
 	IsAnswering   bool
-	ChildPid      int
+	// SecondPid is the process of the second child, which there is for the time of a save.
+	ChildPid, SecondPid int
 	// Tenants is how many tenants have something, and TenantBytes how much all of them have.
 	Tenants     int
 	TenantBytes int64
@@ -305,7 +341,7 @@ type State struct {
 	Log *journal.RedisCounts
 }
 
-// State tells how the store stands. While the child is replaced, its process is 0.
+// State tells how the store stands. While the child is replaced, or saves without a second one, its process is 0.
 func (s *Store) State() State {
 	state := State{Counts: s.Counts(), JournalBytes: s.journal.Bytes(), JournalBroken: s.journal.IsBroken(),
 		Records: s.journal.Number()}
@@ -321,10 +357,13 @@ func (s *Store) State() State {
 			state.Tenants++
 		}
 	}
+	newest := s.newest
+	if s.second != nil {
+		state.SecondPid = s.second.Pid()
+	}
 	s.mutex.Unlock()
-	if s.steps.tryEnter() {
-		state.IsAnswering, state.ChildPid = true, s.process.Pid()
-		s.steps.leave()
+	if s.steps.isAnswering() {
+		state.IsAnswering, state.ChildPid = true, newest.Pid()
 	}
 	return state
 }

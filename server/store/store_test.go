@@ -6,6 +6,7 @@ import (
 	"fmt"
 	"math/rand"
 	"os"
+	"path/filepath"
 	"strings"
 	"sync"
 	"testing"
@@ -171,6 +172,41 @@ func TestWhatWasToldComesBackAfterACrash(t *testing.T) {
 	hasMessages(t, s, "acme/site", "refs/heads/main", want)
 	if s.journal.HasSteps() {
 		t.Fatal("the save left steps in the journal")
+	}
+}
+
+// TestUnfinishedCopiesGo has what kills leave of copies of the pool file: a start removes that, and nothing that is no file of the server's.
+func TestUnfinishedCopiesGo(t *testing.T) {
+	c := config(t, folder(t))
+	c.Copy = filepath.Join(t.TempDir(), "shared.pool")
+	s := opened(t, c)
+	if err := s.BringCopy(background); err != nil {
+		t.Fatal(err)
+	}
+	crash(s)
+	left := []string{filepath.Join(c.Folder, rescuedName+".new"), c.Copy + ".new"}
+	other := []string{filepath.Join(c.Folder, "mine.new"), filepath.Join(c.Folder, rescuedName), c.Copy + ".new.old"}
+	for _, path := range append(left, other...) {
+		if err := os.WriteFile(path, []byte("half"), 0o600); err != nil {
+			t.Fatal(err)
+		}
+	}
+	s = opened(t, c)
+	if err := s.BringCopy(background); err != nil {
+		t.Fatal(err)
+	}
+	for at, path := range append(left, other...) {
+		if _, err := os.Lstat(path); (err != nil) != (at < len(left)) {
+			t.Error(path, err)
+		}
+	}
+	crash(s)
+	if err := os.Mkdir(left[0], 0o700); err != nil {
+		t.Fatal(err)
+	}
+	crash(opened(t, c))
+	if _, err := os.Lstat(left[0]); err != nil {
+		t.Error(err)
 	}
 }
 

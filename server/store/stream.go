@@ -140,11 +140,12 @@ func (st *Stream) openIn(ctx context.Context) (Pending, error) {
 		return Pending{}, err
 	}
 	st.number = number
-	batch, err := st.process.Send(ctx, child.Short, frames.Step{Kind: frames.Open, Tenant: st.tenant})
+	batch, err := st.process.Send(child.Endless(ctx), child.Short, frames.Step{Kind: frames.Open, Tenant: st.tenant})
 	return Pending{batch}, err
 }
 
-// Feed feeds a piece of at most frames.LongestBody bytes. It does not wait for the answer.
+// Feed feeds a piece of at most frames.LongestBody bytes. It does not wait for the answer. What the journal has the child gets, also where the
+// context ends meanwhile: else another child that carries the journal out would come to something else.
 func (st *Stream) Feed(ctx context.Context, body []byte) (Pending, error) {
 	st.mutex.Lock()
 	defer st.mutex.Unlock()
@@ -158,7 +159,7 @@ func (st *Stream) Feed(ctx context.Context, body []byte) (Pending, error) {
 	}
 	st.fed += int64(len(body))
 	st.store.taken.Add(1)
-	batch, err := st.process.Send(ctx, child.Short, step)
+	batch, err := st.process.Send(child.Endless(ctx), child.Short, step)
 	return Pending{batch}, err
 }
 

@@ -4,8 +4,12 @@ from __future__ import annotations
 import struct
 from array import array
 from dataclasses import dataclass
-from typing import BinaryIO, Dict, List, Tuple
+from hashlib import sha256
+from typing import BinaryIO, Dict, Iterator, List, Tuple
 import sys
+
+Kept = Tuple[List[Tuple[int, bytes]], Dict[bytes, Tuple[int, bytes]], bytes]
+"""What a tenant has: its objects in their order, its refs, and its HEAD. An object is its kind and a digest of its contents."""
 
 _NUMBER = struct.Struct(">Q")
 _SHORT = struct.Struct(">H")
@@ -53,3 +57,23 @@ def _number(file: BinaryIO) -> int:
 
 def _sized(file: BinaryIO) -> bytes:
     return file.read(_SHORT.unpack(file.read(2))[0])
+
+
+def repositories(path: str) -> Dict[bytes, Kept]:
+    """What each tenant of a pool file has that has something: its objects in their order, its refs, and its HEAD."""
+    objects = list(read_objects(path))
+    found: Dict[bytes, Kept] = {}
+    for tenant, it in read_tenants(path).items():
+        own = [objects[number] for number in it.objects]
+        found[tenant] = (own, {name: own[place] for name, place in it.refs}, it.head)
+    return {tenant: it for tenant, it in found.items() if it[0]}
+
+
+def read_objects(path: str) -> Iterator[Tuple[int, bytes]]:
+    """The kind, and a digest of the contents, of each object of a pool file."""
+    with open(path, "rb") as file:
+        file.seek(12)
+        (many,) = struct.unpack(">Q", file.read(8))
+        for _ in range(many):
+            kind, size = struct.unpack(">BQ", file.read(9))
+            yield kind, sha256(file.read(size)).digest()

@@ -11,36 +11,40 @@ import random
 import shutil
 import signal
 import struct
+import subprocess
 import time
 from typing import Callable, Dict, List, Sequence, Tuple, Union
 
+from follower_strikes import FollowerStrikes
 from redis_pairs import NotThere, Pair, RedisServer, wait_until
-from service import Service, content
+from servers import Server, content
+from service import QUESTIONS, Service
 
 Entry = Union[bytes, int, None, Exception, "List[Entry]"]
 DAY = 86_400
 
 
-class Strikes:
+class Strikes(FollowerStrikes):
     """What may happen to a service."""
 
     def __init__(self, service: Service, chance: random.Random):
-        self.service, self.chance = service, chance
-        self.day = 0
+        super().__init__(service, chance)
+        self.day, self.present = 0, ""
+        self.seen: Dict[str, int] = {}
+
+    def begin(self) -> None:
+        """Begins a round: what the servers say from now on belongs to its strike."""
+        self.present, self.seen = "", {it.log: os.path.getsize(it.log) for it in self.service.both()}
 
     def pair(self) -> Pair:
         """One of the pairs of Redis servers."""
         return self.chance.choice(self.service.pairs)
 
-    def rest(self, most: float) -> None:
-        """Waits for some time."""
-        time.sleep(self.chance.uniform(0, most))
-
     # Beside work
 
     def server_killed(self) -> None:
         """The server is killed."""
-        self.service.kill()
+        self.service.leader.kill()
         self.rest(0.5)
         self.service.start()
 
@@ -50,11 +54,15 @@ class Strikes:
 
     def children_killed(self) -> None:
         """All children are killed."""
-        for it in self.service.children():
+        for it in self.children():
             signalled(it, signal.SIGKILL)
 
+    def children(self) -> List[int]:
+        """The children of leader and follower."""
+        return [child for it in self.service.both() for child in it.children()]
+
     def signal_child(self, number: int) -> int:
-        found = self.service.children()
+        found = self.children()
         chosen = self.chance.choice(found) if found else 0
         signalled(chosen, number)
         return chosen
@@ -67,10 +75,9 @@ class Strikes:
 
     def server_stopped(self) -> None:
         """The server is stopped for some time."""
-        assert self.service.process
-        self.service.process.send_signal(signal.SIGSTOP)
+        self.service.leader.signal(signal.SIGSTOP)
         self.rest(6)
-        self.service.process.send_signal(signal.SIGCONT)
+        self.service.leader.signal(signal.SIGCONT)
 
     def primary_killed(self) -> None:
         """A primary is killed; it comes back at once, or its replica takes its place before."""
@@ -78,6 +85,13 @@ class Strikes:
         pair.primary().kill()
         self.rest(4)
         pair.start_again()
+
+    def primary_killed_in_reads(self) -> None:
+        """The same, while most of the work is questions."""
+        self.service.questions = 0.9
+        self.rest(1)
+        self.primary_killed()
+        self.service.questions = QUESTIONS
 
     def replica_killed(self) -> None:
         """A replica is killed; without it nothing is told."""
@@ -109,11 +123,12 @@ class Strikes:
         first.start()
 
     def all_killed(self) -> None:
-        """The server, its children, all Redis servers and the Sentinel are killed, as when the power fails."""
-        primaries = [pair.primary() for pair in self.service.pairs]
+        """The servers, their children, all Redis servers and the Sentinel are killed, as when the power fails."""
+        primaries, follower = [pair.primary() for pair in self.service.pairs], self.follower()
+        follower.kill()
         for process in (self.service.sentinel, *(it for pair in self.service.pairs for it in pair.both)):
             process.signal(signal.SIGKILL)
-        self.service.kill()
+        self.service.leader.kill()
         for pair, primary in zip(self.service.pairs, primaries):
             pair.close()
             primary.start()
@@ -122,11 +137,12 @@ class Strikes:
         for pair in self.service.pairs:
             pair.start_again()
         self.service.start()
+        self.service.follow(follower)
 
     def clock_jumps(self) -> None:
         """The clock of a machine with a Redis and that of the Sentinel jump by a day, forward or back. A Sentinel whose clock went back asks no server for
         its role until the clock is where it was, so it is started again, as docs/DEPLOY.md says."""
-        jump = self.chance.choice((DAY, -DAY))
+        jump = self.chance.choice([it for it in (DAY, -DAY) if abs(self.day + it) <= 2 * DAY])
         self.day += jump
         for it in (self.pair().both[0], self.pair().both[1], self.service.sentinel):
             it.jump(self.day)
@@ -144,40 +160,28 @@ class Strikes:
 
     def fault_point(self) -> None:
         """The server starts again, and is killed at one of its fault points, or its child is, or both."""
-        self.service.kill()
+        self.service.leader.kill()
         whom = self.chance.choice(("server", "child", "both"))
         self.service.begin(GITPOOLD_FAULT=f"{whom}:{self.chance.randrange(1, 400)}")
-        try:
-            self.service.wait_for_doors()
-        except NotThere:
-            pass
+        self.service.leader.serves()
         self.rest(3)
-        self.service.kill()
+        self.service.leader.kill()
         self.service.start()
 
     def taken_over(self) -> None:
         """Another machine takes the service over while the first one answers, which has to end with 4."""
-        service = self.service
-        service.operate("save")
-        first, old = service.process, service.folder
-        assert first
-        service.folder = os.path.join(service.room, "two" if old.endswith("one") else "one")
+        service, first = self.service, self.service.leader
+        wait_until(service.saves, "the leader does not save")
+        service.leader = Server(service.new_folder(), service.shards)
         for _ in range(20):
-            service.other_machine(service.folder, old)
+            service.other_machine(service.leader.folder, first.folder)
             service.begin()
-            if self.serves():
+            if service.leader.serves():
                 break
-            assert service.status() == 3 and "goes on from the pool file" in service.said(), service.said()[-1500:]
-        status = first.wait(60)
+            assert service.leader.status() == 3 and "goes on from the pool file" in service.leader.said(), service.leader.said()[-1500:]
+        assert first.process
+        status = first.process.wait(60)
         assert status == 4, f"the first server ended with {status}"
-
-    def serves(self) -> bool:
-        """Whether the server that was begun serves; else it has ended."""
-        try:
-            self.service.wait_for_doors()
-        except NotThere:
-            return False
-        return True
 
     # Damage. The service stands still, and all that was told is there.
 
@@ -219,7 +223,7 @@ class Strikes:
             self.refused_start(says)
         finally:
             rewritten(pair, key, entries, {})
-            self.service.kill()
+            self.service.leader.kill()
             self.service.start()
 
     def other_history(self, pair: Pair, key: str, last: Entry, count: int) -> None:
@@ -270,10 +274,10 @@ class Strikes:
     def pool_damaged(self) -> None:
         """A byte of a pool file is flipped while the server is down: no start goes on; the copy is put back."""
         service = self.service
-        service.operate("save")
+        wait_until(service.saves, "the leader does not save")
         number = self.chance.randrange(service.shards)
-        service.kill()
-        path, whole = service.pool(number), content(service.pool(number))
+        service.leader.kill()
+        path, whole = service.leader.pool(number), content(service.leader.pool(number))
         damaged = bytearray(whole)
         damaged[self.chance.randrange(len(damaged))] ^= 1 << self.chance.randrange(8)
         with open(path, "wb") as file:
@@ -287,22 +291,22 @@ class Strikes:
 
     def quiet(self) -> Tuple[Pair, str, List[Entry]]:
         """Kills the server, and gives a log, which may be the table of places, with its entries."""
-        self.service.kill()
+        self.service.leader.kill()
         pair = self.pair()
         key = self.chance.choice(pair.keys())
         return pair, key, listed(pair.entries(key))
 
     def refused_start(self, says: Sequence[str]) -> None:
         """Asks that a start ends with 3, says why, and changes no pool file and no log; those of sound shards may end in records that say that they
-        were taken over."""
+        were taken over, and that streams which were open are given up."""
         service = self.service
-        pools, logs = service.pools(), self.logs()
+        pools, logs = service.leader.pools(), self.logs()
         service.begin()
-        wait_until(lambda: service.status() is not None or service.ports(), "a start over damage does not end")
+        wait_until(lambda: service.leader.status() is not None or service.leader.ports(), "a start over damage does not end")
         self.has_ended(3, says)
-        assert service.pools() == pools, "a refused start changed a pool file"
+        assert service.leader.pools() == pools, "a refused start changed a pool file"
         for one, other in zip(logs, self.logs()):
-            assert other[: len(one)] == one and all(field(it)[HEAD] == TAKEN_OVER for it in other[len(one) :]), "a refused start changed a log"
+            assert other[: len(one)] == one and all(field(it)[HEAD] in AT_A_START for it in other[len(one) :]), "a refused start changed a log"
 
     def logs(self) -> List[List[Entry]]:
         """The entries of all logs."""
@@ -310,34 +314,65 @@ class Strikes:
 
     def ended_with(self, status: int, says: Sequence[str]) -> None:
         """Asks that the running server ends so by itself, and says why."""
-        wait_until(lambda: self.service.status() is not None, "the server goes on although its log lost records")
+        wait_until(lambda: self.service.leader.status() is not None, "the server goes on although its log lost records")
         self.has_ended(status, says)
 
     def has_ended(self, status: int, says: Sequence[str]) -> None:
         """Asks that the server has ended so, and has said one of these."""
-        found, told = self.service.status(), self.service.said()
+        found, told = self.service.leader.status(), self.service.leader.said()
         assert found == status and any(it in told for it in says), f"the server ended with {found}: {told[-1500:]}"
 
     def rescued(self) -> None:
-        """Does what docs/SERVER.md says after a lost end: takes what the server kept, and begins the logs anew under other keys."""
-        service = self.service
+        """Does what docs/SERVER.md says after a lost end: takes what the server kept, and begins the logs anew under other keys. The follower has ended
+        too, and has kept what it had."""
+        service, follower = self.service, self.follower()
+        wait_until(lambda: follower.status() is not None, "the follower goes on although its log lost records")
+        assert follower.status() == 3, f"the follower ended with {follower.status()}: {follower.said()[-1500:]}"
+        self.has_kept(follower)
         for number, pair in enumerate(service.pairs):
-            folder = service.shard_folder(number)
-            os.replace(os.path.join(folder, "pool.rescued"), service.pool(number))
-            os.unlink(os.path.join(folder, "log-place"))
+            kept = service.leader.rescued(number)
+            os.replace(kept, service.leader.pool(number))
+            os.unlink(os.path.join(os.path.dirname(kept), "log-place"))
             pair.key += "n"
-        os.unlink(os.path.join(service.folder, "places-log-place"))
+        os.unlink(os.path.join(service.leader.folder, "places-log-place"))
         service.init()
         service.start()
+        service.follow_anew(follower)
+
+    def has_kept(self, it: Server) -> None:
+        """Asks that a server has kept sound pool files. They need not be those of the other one: the leader has steps too of which nobody was told, and that
+        the log never got. A shard whose child is just replaced has nothing to keep, and says so."""
+        for path in map(it.rescued, range(it.shards)):
+            if not os.path.exists(path):
+                assert "what the log lost is not saved" in it.said(), f"there is no {path}: {it.said()[-1500:]}"
+                continue
+            done = subprocess.run([self.service.program, "check", "--pool", path], capture_output=True, check=False)
+            assert done.returncode == 0, f"{path} is not sound: {done.stderr!r}"
+
+    def may_end(self, follower: Server) -> bool:
+        """Whether the follower may have ended so: a log was damaged, or lost records in a failover that the leader had told nobody of."""
+        return follower.status() == 3 and any(it in follower.said() for it in CHANGED) and (self.present in self.LOGS_CHANGE or self.gave_up())
+
+    def gave_up(self) -> bool:
+        """Whether the leader has said that it took no records for longer than pushes wait, and then settled what a log has of those that it had not told of."""
+        log = self.service.leader.log
+        return b"takes records again; of" in content(log)[self.seen.get(log, 0) :]
 
     BESIDE_WORK: Sequence[str] = ("server_killed", "child_killed", "children_killed", "child_stopped", "server_stopped", "primary_killed", "replica_killed",
-                                  "primary_stopped", "failover", "sentinel_killed", "all_killed", "clock_jumps", "redis_full", "fault_point", "taken_over")
-    DAMAGE: Sequence[str] = ("damaged_record", "entry_taken_out", "numbers_used_again", "log_gone", "log_cut", "lossy_failover", "pool_damaged")
+                                  "primary_stopped", "failover", "sentinel_killed", "all_killed", "clock_jumps", "redis_full", "fault_point", "taken_over",
+                                  "primary_killed_in_reads", *FollowerStrikes.OF_FOLLOWER)
+    LOGS_CHANGE: Sequence[str] = ("damaged_record", "entry_taken_out", "numbers_used_again")
+    DAMAGE: Sequence[str] = (*LOGS_CHANGE, "log_gone", "log_cut", "lossy_failover", "pool_damaged")
 
     def of(self, name: str) -> Callable[[], None]:
-        """The strike of a name."""
+        """The strike of a name, which is the one of now."""
+        self.present = name
         found: Dict[str, Callable[[], None]] = {it: getattr(self, it) for it in (*self.BESIDE_WORK, *self.DAMAGE)}
         return found[name]
+
+
+CHANGED = ("the log is gone", "the log lost its end", "is another one than this server had", "is not as it was written", "should come")
+"""What a follower says of a log that is not as it was."""
 
 
 def signalled(process: int, number: int) -> None:
@@ -378,14 +413,16 @@ def rewritten(pair: Pair, key: str, entries: Sequence[Entry], other: Dict[int, b
 
 
 def cut_off(server: RedisServer, chance: random.Random) -> None:
-    """Takes up to 20 KB off the end of the file of a Redis that does not run, at least the last record."""
-    path = server.aof()
-    size = os.path.getsize(path)
-    os.truncate(path, max(0, size - chance.randrange(400, 20_000)))
+    """Takes up to 20 KB off the end of the file of a Redis that does not run, and at least the end of the last record. Signs of life stand behind it."""
+    data = content(server.aof())
+    last = data.rfind(b"\r\nrecord\r\n")
+    os.truncate(server.aof(), max(0, min(last, len(data) - chance.randrange(400, 20_000))))
 
 
-HEAD, TAKEN_OVER = 16, 33
-"""How many bytes stand before the frame of a record, and the kind of the frame."""
+HEAD, TAKEN_OVER, GIVEN_UP = 16, 33, 17
+"""How many bytes stand before the frame of a record, and kinds of frames."""
+AT_A_START = (TAKEN_OVER, GIVEN_UP)
+"""The kinds of the records that a start may append."""
 
 
 def record(number: int, chain: bytes, body: bytes) -> bytes:

@@ -14,6 +14,8 @@ import (
 type Server struct {
 	// MaySend is asked before each part of a pack. An error of it ends the pack and is told; nil means no such question.
 	MaySend func() error
+	// Lines counts the bytes of lines while a request has them; nil counts nothing.
+	Lines pktline.Budget
 }
 
 // mostLines is how many bytes of lines one request may have: in protocols 0 and 1 a session is one request, in protocol 2 each command is one.
@@ -23,6 +25,7 @@ const mostLines = 32 << 20
 // client where its protocol has room for that.
 func (s Server) Serve(ctx context.Context, t Repository, in *bufio.Reader, out *pktline.Writer, version int, isStateless bool) error {
 	reader := pktline.NewReader(in, mostLines)
+	reader.Charge(s.Lines)
 	if version == 2 {
 		return s.serveSecond(ctx, t, reader, out, isStateless)
 	}

@@ -1,0 +1,293 @@
+package store
+
+import (
+	"context"
+	"errors"
+	"fmt"
+	"os"
+	"strings"
+	"sync"
+	"time"
+
+	"gitpoold/child"
+	"gitpoold/faultpoint"
+	"gitpoold/frames"
+	"gitpoold/journal"
+	"gitpoold/poolfile"
+)
+
+// How questions are answered while the child saves stands in this file.
+//
+// Before the gate `steps` is shut, a second child is started on the pool file, and carries the journal out as that of a store does that follows a
+// log; the first child goes on. Once the gate is shut, no record comes any more. So the second child carries out the last ones, and then has what
+// the first one has, and all that was told. It answers questions until the gate is open again. Nothing else comes of what it carries out.
+
+const (
+	// prepareWithin is how long a second child has to load the pool file and carry the journal out, while the first one goes on.
+	prepareWithin = 10 * time.Minute
+	// arriveWithin is how long it has to carry out the last records, for which everybody waits.
+	arriveWithin = 3 * time.Second
+	// fewBytes and fewRecords are how much may be left for then, and mostTurns how often what came meanwhile is carried out to come to that.
+	fewBytes   = 4 << 20
+	fewRecords = 64
+	mostTurns  = 16
+)
+
+// dismissWithin is how long a second child has to answer what it was asked before the gate was opened.
+var dismissWithin = 30 * time.Second
+
+var (
+	errSlow   = errors.New("it does not keep up with what is pushed")
+	errUnsame = errors.New("the journal lacks what the first child has")
+)
+
+// second is a second child, on its way to what the first one has.
+type second struct {
+	started
+	store  *Store
+	first  *child.Process
+	said   *lines
+	replay *replay
+	reader journal.Reader
+	// bytes and records are how much the last turn brought.
+	bytes, records int
+}
+
+// shutForSave shuts the gate `steps` for a save, and gives the call that opens it. Where the pool file is as large as the configuration says, a
+// second child answers questions meanwhile. Where there can be none, they wait.
+func (s *Store) shutForSave(ctx context.Context) (open func(), err error) {
+	it := s.prepareSecond(ctx)
+	if err := s.steps.shut(ctx); err != nil {
+		it.dismiss()
+		return nil, err
+	}
+	if it = it.unless(it.answer()); it != nil {
+		s.isAlone = false
+	}
+	return func() {
+		s.steps.open()
+		it.dismiss()
+	}, nil
+}
+
+// prepareSecond starts a second child and brings it near to what the first one has. It is nil where there is none.
+func (s *Store) prepareSecond(ctx context.Context) *second {
+	if !s.wantsSecond() {
+		return nil
+	}
+	faultpoint.Here("before a second child is started")
+	it := &second{store: s, first: s.process, said: &lines{tell: func(string, ...any) {}}}
+	err := it.start()
+	if err == nil {
+		err = it.within(ctx, prepareWithin, it.prepare)
+	}
+	return it.unless(err)
+}
+
+// takeTurn waits until no other shard has a second child, where this one is to have one, and gives the call that ends the turn.
+func (s *Store) takeTurn(ctx context.Context) (end func()) {
+	if s.config.Turn == nil || !s.isLarge() {
+		return func() {}
+	}
+	select {
+	case s.config.Turn <- struct{}{}:
+		var once sync.Once
+		return func() { once.Do(func() { <-s.config.Turn }) }
+	case <-ctx.Done():
+	case <-s.stopping:
+	case <-s.rescuing:
+	}
+	return func() {}
+}
+
+// wantsSecond tells whether a save is to have a second child, and all that the first one has is in the journal.
+func (s *Store) wantsSecond() bool { return s.isLarge() && !s.isHurried() && s.isSame() }
+
+// isLarge tells whether the pool file, with its journal, is as large as the configuration says.
+func (s *Store) isLarge() bool {
+	if s.config.SecondChild == nil {
+		return false
+	}
+	least := s.config.SecondChild()
+	info, err := os.Stat(s.folder("pool"))
+	return least > 0 && err == nil && info.Size()+s.journal.Bytes() >= least
+}
+
+// isSame tells whether the first child comes to nothing but what the pool file and the journal come to.
+func (s *Store) isSame() bool { return !s.journal.IsBroken() && s.journal.Losses() == s.losses }
+
+// isHurried tells whether the server stops, so that nobody may wait for a second child.
+func (s *Store) isHurried() bool {
+	select {
+	case <-s.stopping:
+	case <-s.rescuing:
+	default:
+		return false
+	}
+	return true
+}
+
+// unless ends the second child where there was an error. The operator is told of the first of several saves without one.
+func (it *second) unless(err error) *second {
+	if it == nil || err == nil {
+		return it
+	}
+	s := it.store
+	if last := it.said.last(); last != "" {
+		err = fmt.Errorf("%w (%s)", err, last)
+	}
+	if !s.isAlone && !s.isHurried() {
+		s.config.Tell("who reads waits while the pool is saved, for there is no second child: %v", err)
+	}
+	s.isAlone = true
+	if it.process != nil {
+		// Nobody has asked it.
+		it.process.Kill()
+	}
+	it.dismiss()
+	return nil
+}
+
+func (it *second) start() (err error) {
+	if err := hasMemory(it.first); err != nil {
+		return err
+	}
+	s := it.store
+	if it.process, it.room, err = s.startChild(s.folder("pool"), it.said); err != nil {
+		return err
+	}
+	faultpoint.SetSecond(it.process.Pid())
+	s.setSecond(it.process)
+	return nil
+}
+
+func (s *Store) setSecond(process *child.Process) {
+	s.mutex.Lock()
+	defer s.mutex.Unlock()
+	s.second = process
+}
+
+// within does something with the second child, which is ended where that takes too long, or where nobody may wait for it any more.
+func (it *second) within(ctx context.Context, most time.Duration, do func() error) error {
+	done := make(chan struct{})
+	defer close(done)
+	go func() {
+		timer := time.NewTimer(most)
+		defer timer.Stop()
+		select {
+		case <-done:
+			return
+		case <-timer.C:
+		case <-ctx.Done():
+		case <-it.first.Gone():
+		case <-it.store.stopping:
+		case <-it.store.rescuing:
+		}
+		it.process.Kill()
+	}()
+	return do()
+}
+
+// prepare loads the pool file, and carries the journal out until little of it is left.
+func (it *second) prepare() error {
+	s := it.store
+	digest, err := poolfile.Digest(s.folder("pool"))
+	if err != nil {
+		return err
+	}
+	// It is answered when the child has loaded the pool file.
+	if _, err := s.requestOf(it.process, frames.Step{Kind: frames.Sizes}); err != nil {
+		return err
+	}
+	faultpoint.Here("after a second child is started")
+	fate, err := s.fateOf(journal.Digest(digest))
+	if err != nil {
+		return err
+	}
+	it.replay = newOngoing(it.process, fate)
+	if it.reader, err = s.journal.Reader(journal.Digest(digest), it.take); err != nil {
+		return err
+	}
+	for turn := 0; turn < mostTurns; turn++ {
+		if err := it.carryOn(); err != nil {
+			return err
+		}
+		if it.bytes <= fewBytes && it.records <= fewRecords {
+			return nil
+		}
+	}
+	return errSlow
+}
+
+// carryOn carries out what the journal has now.
+func (it *second) carryOn() error {
+	it.bytes, it.records = 0, 0
+	if err := it.reader.Read(); err != nil {
+		return err
+	}
+	return it.replay.settle(0)
+}
+
+func (it *second) take(record journal.Record) error {
+	it.bytes += record.Step.Size()
+	it.records++
+	return it.replay.take(record)
+}
+
+// answer lets the second child carry out the last records, and answer questions from then on. The gate `steps` is shut.
+func (it *second) answer() error {
+	if it == nil {
+		return nil
+	}
+	s := it.store
+	err := it.within(context.Background(), arriveWithin, it.carryOn)
+	if err == nil && !s.isSame() {
+		err = errUnsame
+	}
+	if err != nil {
+		return err
+	}
+	faultpoint.Here("before a second child answers")
+	s.steps.putBeside(it.process)
+	go func() {
+		<-it.process.Gone()
+		s.steps.dropBeside(it.process)
+	}()
+	return nil
+}
+
+// dismiss ends the second child, once it has answered what it was asked.
+func (it *second) dismiss() {
+	if it == nil || it.process == nil {
+		return
+	}
+	faultpoint.Here("before a second child is ended")
+	it.process.Dismiss(dismissWithin)
+	os.RemoveAll(it.room)
+	if it.reader != nil {
+		it.reader.Close()
+	}
+	it.store.setSecond(nil)
+	faultpoint.SetSecond(0)
+	faultpoint.Here("after a second child is ended")
+}
+
+// hasMemory asks that the machine has memory for what a child has once more, and some beside.
+func hasMemory(process *child.Process) error {
+	needed := process.Resident() + process.Resident()/4
+	if available, isKnown := availableMemory(); isKnown && available < needed {
+		return fmt.Errorf("it needs %d MB of memory, and the machine has %d MB", needed>>20, available>>20)
+	}
+	return nil
+}
+
+// availableMemory is how much memory the machine has for programs that start.
+func availableMemory() (bytes int64, isKnown bool) {
+	text, err := os.ReadFile("/proc/meminfo")
+	if err != nil {
+		return 0, false
+	}
+	_, rest, _ := strings.Cut(string(text), "MemAvailable:")
+	_, err = fmt.Sscanf(rest, "%d kB", &bytes)
+	return bytes << 10, err == nil
+}
