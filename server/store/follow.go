@@ -44,17 +44,17 @@ type follower struct {
 
 // holdTurn lets a store that follows take no record until the call that it gives: at a merge that needs another child, for which it would not wait. It
 // does not wait for longer than the context lasts.
-func (s *Store) holdTurn(ctx context.Context) (end func()) {
+func (s *Store) holdTurn(ctx context.Context) (end func(), err error) {
 	if s.follower == nil {
-		return func() {}
+		return func() {}, nil
 	}
 	for !s.follower.turn.TryLock() {
 		if ctx.Err() != nil {
-			return func() {}
+			return nil, ctx.Err()
 		}
 		time.Sleep(time.Millisecond)
 	}
-	return s.follower.turn.Unlock
+	return s.follower.turn.Unlock, nil
 }
 
 // withStreams gives the tenants of which the child may have a stream. The turn is held.

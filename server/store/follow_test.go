@@ -83,6 +83,26 @@ func TestARescueWaitsForRecords(t *testing.T) {
 	}
 }
 
+// TestARescueThatHasNoTurn has a follower that takes records for longer than a rescue waits: nothing is saved, and the operator is told.
+func TestARescueThatHasNoTurn(t *testing.T) {
+	defer func(was time.Duration) { rescueWithin = was }(rescueWithin)
+	rescueWithin = 100 * time.Millisecond
+	server := redistest.Start(t)
+	c := overRedis(t, server, plain(t, folder(t)))
+	leader := opened(t, c)
+	defer leader.Close(background)
+	of := followerOf(t, c)
+	count := heard(&of)
+	follower := opened(t, of)
+	defer follower.Close(background)
+	follower.follower.turn.Lock()
+	follower.Rescue()
+	follower.follower.turn.Unlock()
+	if _, err := os.Stat(filepath.Join(of.Folder, rescuedName)); !errors.Is(err, os.ErrNotExist) || count("what the log lost is not saved") != 1 {
+		t.Fatal("a rescue does not wait for its turn", err)
+	}
+}
+
 // TestAFollowerComesToTheSameBytes has a leader with pushes of several tenants at once, streams that stay open over a save, streams that are given
 // up and requests of the operator. The follower answers as the leader does, and comes to the same pool files.
 func TestAFollowerComesToTheSameBytes(t *testing.T) {

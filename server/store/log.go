@@ -131,30 +131,39 @@ func (s *Store) lost(why error) {
 func (s *Store) Rescue() { s.rescued.Do(s.rescue) }
 
 // rescueWithin is how long a server that stops waits for those who use the child.
-const rescueWithin = 10 * time.Second
+var rescueWithin = 10 * time.Second
 
 // rescue saves what the child has beside the pool file.
 func (s *Store) rescue() {
 	close(s.rescuing)
 	ctx, stop := context.WithTimeout(context.Background(), rescueWithin)
 	defer stop()
-	endTurn := s.holdTurn(ctx)
-	defer endTurn()
-	err := s.beginMaintenance(ctx)
-	if err == nil {
-		defer s.endMaintenance()
-		if err = s.steps.shut(ctx); err == nil {
-			defer s.steps.open()
-			s.abandonAll(ctx)
-			err = s.saveTo(s.process, s.folder(rescuedName))
-			s.rescueAnswers()
-		}
-	}
-	if err != nil {
+	if err := s.rescueWhileStill(ctx); err != nil {
 		s.config.Tell("what the log lost is not saved: %v", err)
 		return
 	}
 	s.config.Tell("%s has all pushes that were told", s.folder(rescuedName))
+}
+
+// rescueWhileStill does so while nobody else uses the child.
+func (s *Store) rescueWhileStill(ctx context.Context) error {
+	endTurn, err := s.holdTurn(ctx)
+	if err != nil {
+		return err
+	}
+	defer endTurn()
+	if err := s.beginMaintenance(ctx); err != nil {
+		return err
+	}
+	defer s.endMaintenance()
+	if err := s.steps.shut(ctx); err != nil {
+		return err
+	}
+	defer s.steps.open()
+	s.abandonAll(ctx)
+	err = s.saveTo(s.process, s.folder(rescuedName))
+	s.rescueAnswers()
+	return err
 }
 
 // abandonAll lets the child give up the streams that it has, so that the file has their last checkpoints, which readers have seen.
