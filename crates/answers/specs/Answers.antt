@@ -16,7 +16,8 @@ use Rattle.export_text.specs.Reached.{is_exportable}
 use Rattle.export_text.specs.Export.{export_text}
 use Rattle.answers.specs.declared.fault.Fault.{Fault}
 use Rattle.answers.specs.declared.fault.Fault.TheVariants as fault
-use Rattle.answers.specs.Faults.{and_then, resolved_or}
+use Rattle.git_model.specs.Results.{and_then}
+use Rattle.answers.specs.Faults.{resolved_or}
 use Rattle.answers.specs.Queries.{query_of}
 use Rattle.answers.specs.Printed.{line, name_line, shortest_prefix, object_text, tree_lines, log_lines, ref_lines}
 

@@ -1,5 +1,6 @@
 -- Faults: the number of each refusal, and how one is passed on.
 use Rattle.std.specs.Prelude.{◌≡◌, ◌≢◌, ℕ, List, ◌++◌, Option, None, Some, Result, Ok, Err}
+use Rattle.git_model.specs.Results.{GivesOr}
 use Rattle.revisions.specs.declared.fault.Fault.{Fault as RevisionFault}
 use Rattle.revisions.specs.declared.fault.Fault.TheVariants as revision_fault
 use Rattle.export_text.specs.declared.fault.Fault.{Fault as ExportFault}
@@ -16,16 +17,6 @@ code_of fault.Limit = 25
 code_of fault.UnknownQuery = 40
 code_of fault.MalformedQuery = 41
 code_of fault.Memory = 90
-
--- What comes after a step that may be refused.
-abbrev pub and_then : {A B : Type 0} → Result A Fault → (A → Result B Fault) → Result B Fault
-and_then (Ok value) next = next value
-and_then (Err e) next = Err e
-
--- What must be there, or else this fault.
-abbrev pub or_fault : {A : Type 0} → Fault → Option A → Result A Fault
-or_fault e None = Err e
-or_fault e (Some value) = Ok value
 
 -- The refusal of an expression, as that of a query. A malformed expression makes a malformed query.
 abbrev pub resolving_fault : RevisionFault → Fault
@@ -46,8 +37,7 @@ resolved_or (Err e) = Err (resolving_fault e)
 
 -- What a call answers is what is defined; out of memory may stand in its place.
 abbrev pub Gives : {A : Type 0} → Result A Fault → Result A Fault → Type 0
-Gives (Ok value) defined = defined ≡ Ok value
-Gives (Err e) defined = e ≢ fault.Memory → defined ≡ Err e
+Gives result defined = GivesOr fault.Memory (λ value. value) result defined
 
 -- The defined text was appended, or the defined refusal was answered. Out of memory may be answered
 -- instead of either.

@@ -16,7 +16,7 @@ use Rattle.answers.specs.declared.query.Word.{Word}
 use Rattle.answers.specs.declared.query.Word.TheVariants as words
 use Rattle.answers.specs.declared.fault.Fault.{Fault}
 use Rattle.answers.specs.declared.fault.Fault.TheVariants as fault
-use Rattle.answers.specs.Faults.{and_then, or_fault}
+use Rattle.git_model.specs.Results.{and_then, or_fault}
 
 -- The argument of a query is what is after its first space, where it has one.
 abbrev pub is_space : ℕ → Bool

@@ -9,7 +9,8 @@ ghost use Rattle.tenant_tables.specs.View.{in_sight};
 ghost use Rattle.tenant_tables.specs.declared.sight.Sight.TheVariants.{Committed};
 ghost use Rattle.revisions.specs.FirstParents.{IsFirstParentChain};
 ghost use Rattle.answers.specs.Answers.{answer_to, export_asked, log_asked, object_asked, told, told_of_object, told_of_repository};
-ghost use Rattle.answers.specs.Faults.{Prints, and_then};
+ghost use Rattle.git_model.specs.Results.{and_then};
+ghost use Rattle.answers.specs.Faults.{Prints};
 ghost use Rattle.answers.specs.Printed.{line, log_lines, object_text, shortest_prefix};
 ghost use Rattle.answers.specs.declared.query.ObjectQuery.TheVariants.{Ls};
 

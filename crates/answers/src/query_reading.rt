@@ -7,7 +7,8 @@ ghost use Rattle.std.specs.Str.{bytes_eq};
 ghost use Rattle.answers.specs.declared.fault.Fault.TheVariants as fault;
 ghost use Rattle.answers.specs.declared.query.Word.TheVariants as words;
 ghost use Rattle.revisions.specs.ExpressionReading.{expression_of};
-ghost use Rattle.answers.specs.Faults.{Gives, or_fault};
+ghost use Rattle.git_model.specs.Results.{or_fault};
+ghost use Rattle.answers.specs.Faults.{Gives};
 ghost use Rattle.answers.specs.Queries.{after_space, is_space, query_by, query_of, word_of};
 
 use crate::fault::Fault;

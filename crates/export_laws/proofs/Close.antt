@@ -15,7 +15,7 @@ use Rattle.stream_parts.specs.declared.branches.Tip.TheVariants.{At}
 use Rattle.stream_parts.specs.declared.fault.Fault.{Fault}
 use Rattle.stream_parts.specs.Branches.{with_branch, Branches}
 use Rattle.import_session.specs.Commits.{closed_at, closed_where}
-use Rattle.stream_parts.specs.Faults.{and_then}
+use Rattle.git_model.specs.Results.{and_then}
 use Rattle.stream_commands.specs.Faults.{changed_or}
 use Rattle.stream_parts.specs.Marks.{room_for, with_mark}
 use Rattle.stream_parts.specs.OpenCommand.{Changes}

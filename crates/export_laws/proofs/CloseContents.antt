@@ -22,7 +22,7 @@ use Rattle.file_maps.proofs.GoodObjects.{files-of, good-trees}
 use Rattle.file_maps.proofs.StoredAgain.{stored-already}
 use Rattle.open_commits.specs.declared.fault.Fault.{Fault}
 use Rattle.open_commits.specs.Ends.{Closed, closed, commit_content, commit_of}
-use Rattle.open_commits.specs.Faults.{and_then}
+use Rattle.git_model.specs.Results.{and_then}
 use Rattle.open_commits.specs.OpenCommit.{OpenCommit}
 use Rattle.open_commits.specs.Storing.{stored as stored_by, stored_or, trees_or, trees_stored}
 use Rattle.export_laws.specs.Commits.{commit_told}

@@ -18,11 +18,10 @@ use Rattle.stream_grammar.specs.Acts.{Modify, DeleteAll}
 use Rattle.open_commits.specs.declared.fault.Fault.{Fault as CommitFault}
 use Rattle.open_commits.specs.declared.fault.Fault.TheVariants as commit_fault
 use Rattle.open_commits.specs.Changes.{blob_of, entry_of, file_put, modified, name_as}
-use Rattle.open_commits.specs.Faults.{and_then as commit_then, or_fault}
+use Rattle.git_model.specs.Results.{and_then, or_fault}
 use Rattle.open_commits.specs.OpenCommit.{OpenCommit}
 use Rattle.open_commits.specs.Parents.{changed_to}
 use Rattle.import_session.specs.Changes.{files_changed}
-use Rattle.stream_parts.specs.Faults.{and_then}
 use Rattle.stream_commands.specs.Faults.{changed_or}
 use Rattle.import_session.specs.Meaning.{after_act}
 use Rattle.stream_commands.specs.Workspace.{Workspace, quiet}
@@ -50,7 +49,7 @@ blob-named : (os : List Object) (w : Workspace) (id : List ℕ) → IsToldAs os 
     → blob_of w.objects w.stream.marks (dataref os m id) ≡ Ok id
 blob-named os w id told m same =
     ap (blob_of w.objects w.stream.marks) same
-    ∙ ap (λ (found : Option MarkedObject). commit_then (or_fault commit_fault.MarkUnknown found)
+    ∙ ap (λ (found : Option MarkedObject). and_then (or_fault commit_fault.MarkUnknown found)
     (name_as kind.Blob)) told.mark
     ∙ ap (if_so id) is-blob
 
@@ -65,9 +64,9 @@ put-so path e commit next is none =
 
 named-put : (named : Result (List ℕ) CommitFault) (m : FileMode) (id : List ℕ) (path : Path)
     (commit next : OpenCommit) → named ≡ Ok id → file_put path (entry_of m id) commit ≡ Ok next
-    → commit_then named (λ id. file_put path (entry_of m id) commit) ≡ Ok next
+    → and_then named (λ id. file_put path (entry_of m id) commit) ≡ Ok next
 named-put named m id path commit next is put =
-    ap (λ (r : Result (List ℕ) CommitFault). commit_then r (λ id. file_put path (entry_of m id) commit)) is ∙ put
+    ap (λ (r : Result (List ℕ) CommitFault). and_then r (λ id. file_put path (entry_of m id) commit)) is ∙ put
 
 modifies : (os : List Object) (w : Workspace) (m : FileMode) (id : List ℕ) (path : Path)
     (commit next : OpenCommit) → m ≢ mode.Directory

@@ -16,7 +16,7 @@ use Rattle.stream_parts.specs.declared.fault.Fault.{Fault}
 use Rattle.stream_parts.specs.declared.headers.CommitHeader.{CommitHeader}
 use Rattle.stream_parts.specs.Branches.{branch_set, has_branch_room, ref_meant, tip_commit, tip_for, Branches}
 use Rattle.import_session.specs.Commits.{begun_from, commit_said}
-use Rattle.stream_parts.specs.Faults.{and_then}
+use Rattle.git_model.specs.Results.{and_then}
 use Rattle.stream_commands.specs.Faults.{changed_or}
 use Rattle.import_session.specs.Meaning.{after_act}
 use Rattle.stream_commands.specs.Refs.{ref_set}

@@ -11,7 +11,7 @@ use Rattle.git_model.specs.References.{kind_named}
 use Rattle.git_model.specs.Repository.{Object}
 use Rattle.git_model.proofs.Peelings.{is_of_kind}
 use Rattle.revisions.specs.declared.fault.Fault.TheVariants as revision_fault
-use Rattle.revisions.specs.Faults.{or_fault}
+use Rattle.git_model.specs.Results.{or_fault}
 use Rattle.revisions.specs.Resolution.{peeled}
 use Rattle.file_maps.specs.StoredFiles.{commit_map}
 use Rattle.stream_grammar.specs.Acts.{Commit as CommitAct}
@@ -22,7 +22,8 @@ use Rattle.open_commits.specs.Parents.{merged, started_from}
 use Rattle.stream_parts.specs.declared.fault.Fault.{Fault}
 use Rattle.import_session.specs.Commits.{commit_said}
 use Rattle.stream_commands.specs.CommitIshes.{commit_in}
-use Rattle.stream_parts.specs.Faults.{and_then, resolved_or}
+use Rattle.git_model.specs.Results.{and_then}
+use Rattle.stream_parts.specs.Faults.{resolved_or}
 use Rattle.stream_commands.specs.Faults.{changed_or}
 use Rattle.import_session.specs.Meaning.{after_act}
 use Rattle.stream_parts.specs.OpenCommand.{Changes}

@@ -18,7 +18,7 @@ use Rattle.stream_parts.specs.OpenCommand as open_command
 use Rattle.stream_parts.specs.OpenCommand.{OpenCommand}
 use Rattle.stream_commands.specs.Workspace.{Workspace, quiet, with_command}
 use Rattle.stream_parts.specs.declared.fault.Fault.{Fault}
-use Rattle.stream_parts.specs.Faults.{and_then}
+use Rattle.git_model.specs.Results.{and_then}
 use Rattle.export_text.specs.ExportActs.{number_of, reset_acts}
 use Rattle.export_laws.specs.Leaving.{Leaves, nothing}
 use Rattle.export_laws.proofs.Acts.{asked}

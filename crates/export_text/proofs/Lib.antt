@@ -1,3 +1,4 @@
+pub mod Leading
 pub mod Reaching
 pub mod Pieces
 pub mod Marked

@@ -11,7 +11,7 @@ use Rattle.git_objects.specs.declared.tree_entry.TreeEntry as entry
 use Rattle.git_objects.specs.Parts.{entry_of, entries_of}
 use Rattle.export_text.specs.Marking.{marked, names_in}
 use Rattle.export_text.proofs.Pieces.{next-of}
-use Rattle.export_text.proofs.Reaching.{marked-append}
+use Rattle.export_text.proofs.Leading.{marked-append}
 
 pub one-more : (os : List Object) (first old new : List Bool) (ids more : List (List ℕ)) (id : List ℕ)
     → more ≡ ids ++ id ∷ [] → old ≡ marked os first ids → new ≡ marked os old (id ∷ [])

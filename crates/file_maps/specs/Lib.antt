@@ -5,8 +5,8 @@ pub mod HeldFiles
 pub mod Edits
 pub mod Kept
 pub mod Calls
-pub mod Trees
 pub mod ByComponent
+pub mod Trees
 pub mod StoredTree
 pub mod Grafts
 pub mod Below

@@ -1,4 +1,6 @@
 -- The trees that files make: "tree object" in gitglossary(7), and git-write-tree(1).
+-- `IsTreeByComponent` of ByComponent says what the tree of a path lists: each name once, in Git's
+-- order. The law `laws::trees_by_component` says that `tree_entries` is that tree.
 use Rattle.std.specs.Prelude.{ℕ, zero, suc, Bool, ◌&&◌, not, max, length, List, [], ◌∷◌, ◌++◌, map}
 use Rattle.std.specs.Prelude.{Option, Some, None, if◌then◌else◌}
 use Rattle.std.specs.List.{flat_map}

@@ -24,10 +24,11 @@ use Rattle.stream_parts.specs.declared.headers.CommitHeader.{CommitHeader}
 use Rattle.stream_parts.specs.declared.headers.InlineFile.{InlineFile}
 use Rattle.stream_parts.specs.OpenCommand.{OpenCommand, Inline, changes_in, command_with}
 use Rattle.stream_parts.specs.OpenCommand as open_command
-use Rattle.stream_parts.specs.Faults.{and_then}
+use Rattle.git_model.specs.Results.{and_then}
 use Rattle.stream_commands.specs.Faults.{changed_or}
 use Rattle.stream_parts.specs.Branches.{Branches, branch_set, tip_for}
 use Rattle.stream_commands.specs.Workspace.{Effect, Workspace, quiet, with_command}
+use Rattle.revisions.specs.declared.tag_ends.ChainCache.{ChainCache}
 use Rattle.stream_commands.specs.Held.{ChainStands, HoldsFiles}
 use Rattle.stream_commands.specs.Lines.{in_changes}
 use Rattle.import_session.specs.Commits.{begun_from, commit_opened, header_said}
@@ -121,14 +122,14 @@ put_back state left p t refs change commit next out result is left_is changed =
 
 -- a session that takes its commit out and looks a commit up, and puts its own back
 pub left_with : (state looked left : StreamState) (spent : OpenCommand HeldCommit) (next : HeldCommit)
-    (chain : List (List ℕ)) → looked ≡ record (state_with state spent) { chain = chain }
+    (chain : ChainCache) → looked ≡ record (state_with state spent) { chain = chain }
     → left ≡ state_with looked (open_command.Changes next)
     → left ≡ state_with (record state { chain = chain }) (open_command.Changes next)
 left_with state looked left spent next chain looked_is left_is =
     left_is ∙ ap (λ (s : StreamState). state_with s (open_command.Changes next)) looked_is
 
 pub held_with : (os : List Object) (state left : StreamState) (next : HeldCommit)
-    (chain : List (List ℕ)) (result : Result Unit Fault) → AreBranches os state.kept
+    (chain : ChainCache) (result : Result Unit Fault) → AreBranches os state.kept
     → ChainStands os chain → OnOk result (Stands os next)
     → left ≡ state_with (record state { chain = chain }) (open_command.Changes next)
     → OnOk result (HoldsFiles os left)

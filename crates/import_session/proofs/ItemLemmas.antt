@@ -10,7 +10,8 @@ use Rattle.stream_grammar.specs.declared.act.Done.{Done as LentDone}
 use Rattle.stream_grammar.specs.declared.fault.Fault.TheVariants as text_fault
 use Rattle.stream_grammar.specs.Shown.{Answers, act_shown, done_shown}
 use Rattle.stream_grammar.specs.Commands.{Done, Parsing}
-use Rattle.stream_parts.specs.Faults.{text_first, and_then}
+use Rattle.git_model.specs.Results.{and_then}
+use Rattle.stream_parts.specs.Faults.{text_first}
 use Rattle.stream_commands.specs.Workspace.{Workspace, Effect}
 use Rattle.import_session.specs.Commits.{closed_where}
 use Rattle.import_session.specs.Stream.{Running, Step, step, taken, is_finish}

@@ -13,13 +13,14 @@ use Rattle.git_model.specs.Repository.{Object}
 use Rattle.git_model.proofs.Earlier.{place_within, next_falls}
 use Rattle.git_model.proofs.Peelings.{first_is, is_of_kind}
 use Rattle.revisions.specs.declared.fault.Fault.TheVariants as revision_fault
-use Rattle.revisions.specs.Faults.{or_fault}
+use Rattle.git_model.specs.Results.{or_fault}
 use Rattle.revisions.specs.Resolution.{peeled}
 use Rattle.stream_grammar.specs.Names.{CommitIsh}
 use Rattle.stream_parts.specs.declared.branches.Tip.{Tip}
 use Rattle.stream_parts.specs.declared.branches.Tip.TheVariants.{Unborn, Deleted, At}
 use Rattle.stream_parts.specs.declared.fault.Fault.{Fault}
-use Rattle.stream_parts.specs.Faults.{and_then, resolved_or}
+use Rattle.git_model.specs.Results.{and_then}
+use Rattle.stream_parts.specs.Faults.{resolved_or}
 use Rattle.stream_commands.specs.Workspace.{Workspace}
 use Rattle.stream_parts.specs.Branches.{commit_at, tip_of, tip_commit}
 use Rattle.stream_commands.specs.CommitIshes.{commit_in, is_branch, named_in, start_in}

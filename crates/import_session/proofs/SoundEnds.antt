@@ -27,7 +27,7 @@ use Rattle.open_commits.proofs.GoodCommits.{end_keeps as commit_end}
 use Rattle.stream_parts.specs.declared.branches.Tip.{Tip}
 use Rattle.stream_parts.specs.declared.branches.Tip.TheVariants.{Unborn, Deleted, At}
 use Rattle.stream_parts.specs.Branches.{Branches, with_branch}
-use Rattle.stream_parts.specs.Faults.{and_then}
+use Rattle.git_model.specs.Results.{and_then}
 use Rattle.stream_parts.specs.Marks.{Marks, as_marked, room_for, with_mark}
 use Rattle.stream_parts.specs.OpenCommand.{OpenCommand}
 use Rattle.stream_parts.specs.OpenCommand as open_command

@@ -9,7 +9,7 @@ use Rattle.open_commits.specs.OpenCommit.{OpenCommit}
 use Rattle.open_commits.specs.Changes.{modified, deleted, copied_to, renamed_to, all_deleted, contents_put}
 use Rattle.stream_parts.specs.declared.fault.Fault.{Fault}
 use Rattle.stream_parts.specs.declared.headers.InlineFile.{InlineFile}
-use Rattle.stream_parts.specs.Faults.{and_then}
+use Rattle.git_model.specs.Results.{and_then}
 use Rattle.stream_parts.specs.OpenCommand.{Changes, Inline, changes_in, inline_in}
 use Rattle.stream_commands.specs.Faults.{changed_or}
 use Rattle.stream_commands.specs.Workspace.{Workspace, Effect, quiet, with_command}

@@ -10,7 +10,7 @@ use Rattle.open_commits.specs.Ends.{Closed, closed}
 use Rattle.stream_parts.specs.declared.branches.Tip.TheVariants.{At}
 use Rattle.stream_parts.specs.declared.fault.Fault.{Fault}
 use Rattle.stream_parts.specs.declared.headers.CommitHeader.{CommitHeader}
-use Rattle.stream_parts.specs.Faults.{and_then}
+use Rattle.git_model.specs.Results.{and_then}
 use Rattle.stream_commands.specs.Faults.{changed_or}
 use Rattle.stream_parts.specs.Headers.{new_commit_header}
 use Rattle.stream_parts.specs.OpenCommand.{OpenCommand, Nothing, Commit, Changes, already_said, commit_header_in}

@@ -1,6 +1,7 @@
 -- A session: the state of a running stream, the command that is not complete, and whether `done`
 -- was read.
 use Rattle.std.specs.Prelude.{◌≡◌, ◌≢◌, ℕ, List, ◌++◌, take, Result, Ok, Err, Bool, false}
+use Rattle.git_model.specs.Results.{GivesOr}
 use Rattle.git_model.specs.RefStore.{RefStore}
 use Rattle.git_model.specs.Repository.{Repository}
 use Rattle.content_pool.specs.Pool.{Cells}
@@ -38,8 +39,7 @@ ReadsItem (Err e) given = e ≢ fault.Memory → text_first given ≡ Err e
 -- A call left what is wanted, or answered the refusal that is wanted. `Memory` may take the place
 -- of either.
 abbrev pub Leaves : {A : Type 0} → Result A Fault → A → Result Unit Fault → Type 0
-Leaves wanted new (Ok u) = wanted ≡ Ok new
-Leaves wanted new (Err e) = e ≢ fault.Memory → wanted ≡ Err e
+Leaves wanted new result = GivesOr fault.Memory (λ _. new) result wanted
 
 -- The same for an item, which leaves a running stream.
 abbrev pub Takes : Result Step Fault → Running → List ℕ → List ℕ → Result Unit Fault → Type 0

@@ -8,7 +8,8 @@ use Rattle.stream_grammar.specs.Acts.{Act, Control}
 use Rattle.stream_grammar.specs.Commands.{Parsing, top, done_by, after, end_of}
 use Rattle.stream_parts.specs.declared.fault.Fault.{Fault}
 use Rattle.stream_parts.specs.declared.fault.Fault.TheVariants as fault
-use Rattle.stream_parts.specs.Faults.{code_of, text_first, and_then}
+use Rattle.git_model.specs.Results.{and_then}
+use Rattle.stream_parts.specs.Faults.{code_of, text_first}
 use Rattle.stream_commands.specs.Workspace.{Workspace, Effect, quiet}
 use Rattle.stream_commands.specs.Checkpoints.{checkpoint}
 use Rattle.import_session.specs.Commits.{closed_where}

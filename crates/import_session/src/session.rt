@@ -10,7 +10,7 @@ ghost use Rattle.stream_grammar.specs.declared.fault.Fault.{Fault as TextFault};
 ghost use Rattle.stream_grammar.specs.Commands.{Done as DoneBy};
 ghost use Rattle.stream_grammar.specs.Shown.{act_shown, Answers};
 ghost use Rattle.stream_lex.specs.Looking.{item_of};
-ghost use Rattle.stream_parts.specs.Faults.{and_then};
+ghost use Rattle.git_model.specs.Results.{and_then};
 ghost use Rattle.stream_commands.specs.Lent.{Keeps};
 ghost use Rattle.stream_commands.specs.Checkpoints.{checkpoint};
 ghost use Rattle.import_session.specs.Commits.{closed_where};

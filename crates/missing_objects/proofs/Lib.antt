@@ -1,4 +1,3 @@
-pub mod Leading
 pub mod Words
 pub mod Opens
 pub mod Marking

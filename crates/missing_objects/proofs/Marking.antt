@@ -7,7 +7,7 @@ use Rattle.git_model.specs.CommitReading.{commit_read}
 use Rattle.git_model.specs.Repository.{Object}
 use Rattle.git_model.specs.References.{commit_references, place_of, reference, references_of}
 use Rattle.export_text.specs.Marking.{marked, names_in}
-use Rattle.export_text.proofs.Reaching.{marked-append, marked-length}
+use Rattle.export_text.proofs.Leading.{marked-append, marked-length}
 use Rattle.missing_objects.specs.Marks.{AreMarksOf, Marks, first_marks, no_marks, with_marks}
 use Rattle.missing_objects.specs.declared.marks.Mark.{Mark}
 use Rattle.missing_objects.specs.declared.marks.Mark.TheVariants as mark

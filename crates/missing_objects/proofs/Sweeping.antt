@@ -1,65 +1,35 @@
 -- A sweep from late places to early ones settles which objects are wanted and not had.
 use Rattle.std.proofs.Common.{◌≡◌, ℕ, zero, suc, ◌+◌, ◌<◌, ◌≤◌, Bool, true, false, not, ◌&&◌, ◌||◌, cond, List, [], ◌∷◌, length, get_or, replicate, All, inl, inr, ◌⊎◌, ◌↔◌, refl, sym, ap, subst, ◌∙◌, arith}
 use Rattle.std.specs.Prelude.{IsTrue, nat_lt}
-use Rattle.std.specs.List.{Contains, list_any}
-use Rattle.std.proofs.lemmas.Bool.{cases_Bool, cases_eq, or_cases, or_left, or_right}
+use Rattle.std.specs.List.{Contains}
+use Rattle.std.proofs.lemmas.Bool.{cases_Bool, cases_eq, cases_lt, or_cases, or_left, or_right}
 use Rattle.std.proofs.lemmas.Bool.Decides.{nat_tests}
 use Rattle.std.proofs.lemmas.List.Elements.{All-nil, All-contains, All-contains_itself, All-weaker}
 use Rattle.git_model.specs.Repository.{Object}
 use Rattle.git_model.specs.References.{referred_by, place_of, object_at}
 use Rattle.git_model.specs.GoodRepository.{AreObjects}
-use Rattle.git_model.specs.Reach.{IsClosed, Reaches, is_reachable}
-use Rattle.git_model.proofs.Least.{least}
-use Rattle.git_model.proofs.Earlier.{place_within, references_fall}
+use Rattle.git_model.specs.Reach.{IsClosed}
+use Rattle.git_model.proofs.Earlier.{references_fall}
 use Rattle.commit_walk.proofs.Named.{there}
 use Rattle.export_text.specs.Marking.{marked}
-use Rattle.export_text.proofs.Reaching.{IsOn}
+use Rattle.export_text.proofs.Leading.{IsLed, IsLedTo, IsOn, all_on, any-led, kept_on, led-any, led-first, led-more, led-next, nothing_referred, on_either, on_within, same_above, same_test, stays_on}
 use Rattle.missing_objects.specs.Marks.{Marks, first_marks, is_open, marks_at, open_places, with_marks}
 use Rattle.missing_objects.specs.declared.marks.Mark.TheVariants as mark
 use Rattle.missing_objects.specs.Missing.{is_missing, is_reached_by}
-use Rattle.missing_objects.proofs.Leading.{IsLed, IsLedTo, all_on, kept_on, led-first, led-more, led-next, nothing_referred, on_either, on_within, same_above, same_test, stays_on}
 use Rattle.missing_objects.proofs.Opens.{bit, opens, opens-agree, opens-few, opens-suc, opens-zero, none_below}
 
 -- ---- what is led to is what is reached
 
 module _ (digest : List ℕ → List ℕ) (os : List Object) (good : AreObjects digest os) where
-  by_least : (from id : List ℕ)
-      → IsTrue (is_reachable os (referred_by os) from id) ↔ Reaches (referred_by os) from id
-  by_least from id =
-      least (referred_by os) (λ x. place_of x os) (references_fall digest os good) (length os) from id
-      (place_within from os)
-
-  from_any : (id : List ℕ) (names : List (List ℕ))
-      → list_any (λ name. is_reachable os (referred_by os) name id) names ≡ true → IsLedTo os names id
-  from_any id [] h = cc
-  from_any id (name ∷ names) h = elim (or_cases _ _ h) [
-    | inl one ↦ record { from = name; among = (0, omega arith, refl); reaches = (by_least name id).0 one }
-    | inr rest ↦
-        let found = from_any id names rest in
-        record {
-          from = found.from;
-          among = (suc found.among.0, omega (arith, found.among.1), found.among.2);
-          reaches = found.reaches;
-        }
-  ]
-
-  to_any : (id from : List ℕ) → Reaches (referred_by os) from id
-      → (names : List (List ℕ)) (k : ℕ) → k < length names → get_or names k from ≡ from
-      → list_any (λ name. is_reachable os (referred_by os) name id) names ≡ true
-  to_any id from r [] k lt at = absurd (omega arith)
-  to_any id from r (name ∷ names) zero lt at =
-      or_left _ _ (subst (λ (x : List ℕ). is_reachable os (referred_by os) x id ≡ true) (sym at) ((by_least from id).1 r))
-  to_any id from r (name ∷ names) (suc k) lt at = or_right _ _ (to_any id from r names k (omega arith) at)
-
   pub led-reached : (names : List (List ℕ)) (id : List ℕ) → IsLedTo os names id
       → is_reached_by os names id ≡ true
   unfolding is_reached_by
-  led-reached names id led = to_any id led.from led.reaches names led.among.0 led.among.1 led.among.2
+  led-reached names id led = led-any digest os good names id led
 
   pub reached-led : (names : List (List ℕ)) (id : List ℕ) → is_reached_by os names id ≡ true
       → IsLedTo os names id
   unfolding is_reached_by
-  reached-led names id h = from_any id names h
+  reached-led names id h = any-led digest os good id names h
 
 -- A sweep that has looked at the places from n on and found some of them opened.
 pub record IsSweep (os : List Object) (wants haves : List (List ℕ)) (n found : ℕ) (m : Marks) : Type 0 where
@@ -103,14 +73,6 @@ closed-of m p on = ap (λ (b : Bool). get_or m.wanted p false && not b) on ∙ n
 
 unwanted-of : (m : Marks) (p : ℕ) → get_or m.wanted p false ≡ false → is_open m p ≡ false
 unwanted-of m p off = ap (λ (b : Bool). b && not (get_or m.had p false)) off
-
-pub cases_lt : (a b : ℕ) → (a < b) ⊎ (b ≤ a)
-cases_lt a zero = inr (omega arith)
-cases_lt zero (suc b) = inl (omega arith)
-cases_lt (suc a) (suc b) = elim (cases_lt a b) [
-  | inl lt ↦ inl (omega arith)
-  | inr le ↦ inr (omega arith)
-]
 
 pub below-test : (a b : ℕ) → a < b → nat_lt a b ≡ true
 below-test a b lt = grind (arith, nat_tests)

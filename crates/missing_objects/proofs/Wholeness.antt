@@ -2,7 +2,7 @@
 use Rattle.std.proofs.Common.{◌≡◌, ◌≢◌, ℕ, zero, suc, ◌<◌, ◌≤◌, Bool, true, false, not, ◌&&◌, List, [], ◌∷◌, length, map, get_or, All, None, refl, sym, ap, subst, ◌∙◌, inl, inr, ◌⊎◌, arith}
 use Rattle.std.specs.Prelude.{AllPairs, IsTrue, is_some, nat_lt}
 use Rattle.std.specs.List.{Contains, filter, list_all}
-use Rattle.std.proofs.lemmas.Bool.{cases_Bool}
+use Rattle.std.proofs.lemmas.Bool.{cases_Bool, cases_lt}
 use Rattle.std.proofs.lemmas.List.Elements.{All-nil, All-cons, All-weaker, Contains-get_or}
 use Rattle.std.proofs.lemmas.List.Folds.{list_all_at}
 use Rattle.std.proofs.lemmas.List.Kept.{AllPairs-filter}
@@ -12,9 +12,9 @@ use Rattle.git_model.specs.References.{no_object, object_at, place_of, referred_
 use Rattle.git_model.specs.Repository.{Object, object_named}
 use Rattle.git_model.proofs.Earlier.{place_within, references_fall}
 use Rattle.commit_walk.proofs.Named.{there, not_there}
+use Rattle.export_text.proofs.Leading.{IsLedTo, led-next}
 use Rattle.missing_objects.specs.Missing.{has_all, is_missing, is_reached_by, missing}
-use Rattle.missing_objects.proofs.Leading.{IsLedTo, led-next}
-use Rattle.missing_objects.proofs.Sweeping.{below-not, below-test, cases_lt, led-reached, reached-led}
+use Rattle.missing_objects.proofs.Sweeping.{below-not, below-test, led-reached, reached-led}
 
 same-at : {X : Type 0} (xs : List X) (i : ℕ) (d e : X) → i < length xs → get_or xs i d ≡ get_or xs i e
 same-at [] i d e lt = absurd (omega arith)

@@ -14,7 +14,8 @@ use Rattle.file_maps.specs.Storing.{with_trees, trees_fault}
 use Rattle.file_maps.proofs.ListedOrder.{cut-root}
 use Rattle.open_commits.specs.declared.fault.Fault.{Fault}
 use Rattle.open_commits.specs.declared.fault.Fault.TheVariants as fault
-use Rattle.open_commits.specs.Faults.{editing_fault, and_then}
+use Rattle.git_model.specs.Results.{and_then}
+use Rattle.open_commits.specs.Faults.{editing_fault}
 use Rattle.open_commits.specs.OpenCommit.{OpenCommit}
 use Rattle.open_commits.specs.Storing.{stored, trees_or}
 use Rattle.open_commits.specs.Ends.{Closed, closed, commit_of, commit_content}

@@ -17,7 +17,7 @@ use Rattle.file_maps.specs.Trees.{entry_at}
 use Rattle.file_maps.proofs.FitTrees.{nested-fit, other-fits}
 use Rattle.file_maps.proofs.ListedOrder.{cut-root}
 use Rattle.open_commits.specs.declared.fault.Fault.{Fault}
-use Rattle.open_commits.specs.Faults.{and_then}
+use Rattle.git_model.specs.Results.{and_then}
 use Rattle.open_commits.specs.OpenCommit.{OpenCommit}
 use Rattle.open_commits.specs.Storing.{stored, trees_stored}
 use Rattle.open_commits.specs.Changes.{Left, entry_of, file_put, left_with, blob_put, contents_put}

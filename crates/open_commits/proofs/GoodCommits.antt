@@ -50,7 +50,7 @@ use Rattle.file_maps.proofs.Maps.{empty-of, retain-twice}
 use Rattle.file_maps.proofs.TreesAdded.{name_of, nested_added}
 use Rattle.open_commits.specs.declared.fault.Fault.{Fault}
 use Rattle.open_commits.specs.declared.fault.Fault.TheVariants as fault
-use Rattle.open_commits.specs.Faults.{and_then, or_fault}
+use Rattle.git_model.specs.Results.{and_then, or_fault}
 use Rattle.open_commits.specs.OpenCommit.{Header, OpenCommit, begun}
 use Rattle.open_commits.specs.Storing.{stored, stored_or, trees_stored, trees_or}
 use Rattle.open_commits.specs.Parents.{changed_to, started_from, merged}

@@ -28,7 +28,7 @@ use Rattle.file_maps.proofs.EditedMaps.{AllEntries, IsMapOf, copied-is, file-put
 use Rattle.file_maps.proofs.StoredPut.{stored-put}
 use Rattle.open_commits.specs.declared.fault.Fault.{Fault}
 use Rattle.open_commits.specs.declared.fault.Fault.TheVariants as fault
-use Rattle.open_commits.specs.Faults.{and_then, or_fault}
+use Rattle.git_model.specs.Results.{and_then, or_fault}
 use Rattle.open_commits.specs.OpenCommit.{OpenCommit}
 use Rattle.open_commits.specs.GoodCommits.{AreMarks}
 use Rattle.open_commits.specs.OpenFiles.{HasFiles}

@@ -14,7 +14,7 @@ use Rattle.git_model.proofs.TagReadings.{kind_back}
 use Rattle.stream_grammar.specs.declared.marked_object.MarkedObject.{MarkedObject}
 use Rattle.open_commits.specs.declared.fault.Fault.{Fault}
 use Rattle.open_commits.specs.declared.fault.Fault.TheVariants as fault
-use Rattle.open_commits.specs.Faults.{and_then, or_fault}
+use Rattle.git_model.specs.Results.{and_then, or_fault}
 use Rattle.open_commits.specs.Changes.{Marks, marked_as, name_as}
 use Rattle.open_commits.specs.GoodCommits.{AreMarks, IsMarked}
 

@@ -12,7 +12,7 @@ use Rattle.tree_build.specs.Shape.{What, file, unopened, opened, Shape, none, ro
 use Rattle.tree_build.specs.Branch.{Branch, files_in, root_name, closed_by, closed_along, closed_from, CountsAtMost}
 use Rattle.tree_build.proofs.Growing.{branch_stays}
 use Rattle.open_commits.specs.declared.fault.Fault.{Fault}
-use Rattle.open_commits.specs.Faults.{and_then}
+use Rattle.git_model.specs.Results.{and_then}
 use Rattle.open_commits.specs.OpenCommit.{OpenCommit, HeldCommit, Stands, commit_in}
 use Rattle.open_commits.specs.Storing.{stored}
 use Rattle.open_commits.specs.Calls.{Gives}

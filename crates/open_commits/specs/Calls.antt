@@ -1,5 +1,6 @@
 -- What a call answers and leaves.
 use Rattle.std.specs.Prelude.{◌≡◌, ◌≢◌, List, ◌++◌, Result, Ok, Err}
+use Rattle.git_model.specs.Results.{GivesOr}
 use Rattle.git_model.specs.Repository.{Object}
 use Rattle.content_pool.specs.Pool.{Cells}
 use Rattle.tenant_tables.specs.Objects.{objects}
@@ -18,8 +19,7 @@ Changes wanted old new (Err e) = e ≢ fault.Memory → (wanted ≡ Err e) × (n
 -- A call that stores objects answers and leaves what is wanted, or answers the refusal that is
 -- wanted. `Memory` may take the place of either answer.
 abbrev pub Gives : {A B : Type 0} → Result A Fault → (B → A) → Result B Fault → Type 0
-Gives wanted left (Ok answer) = wanted ≡ Ok (left answer)
-Gives wanted left (Err e) = e ≢ fault.Memory → wanted ≡ Err e
+Gives wanted left result = GivesOr fault.Memory left result wanted
 
 -- Objects may have been added after those that were there, and none of them is committed. What was
 -- a branch among the objects is one still.

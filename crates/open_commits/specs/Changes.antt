@@ -20,7 +20,7 @@ use Rattle.stream_grammar.specs.declared.data_ref.DataRef.TheVariants as data_re
 use Rattle.stream_grammar.specs.declared.marked_object.MarkedObject.{MarkedObject}
 use Rattle.open_commits.specs.declared.fault.Fault.{Fault}
 use Rattle.open_commits.specs.declared.fault.Fault.TheVariants as fault
-use Rattle.open_commits.specs.Faults.{and_then, or_fault}
+use Rattle.git_model.specs.Results.{and_then, or_fault}
 use Rattle.open_commits.specs.OpenCommit.{OpenCommit}
 use Rattle.open_commits.specs.Storing.{stored}
 use Rattle.open_commits.specs.Parents.{changed_to}

@@ -8,7 +8,7 @@ use Rattle.file_maps.specs.FileMap.{listed}
 use Rattle.file_maps.specs.Trees.{tree_id}
 use Rattle.tree_build.specs.Branch.{root_name}
 use Rattle.open_commits.specs.declared.fault.Fault.{Fault}
-use Rattle.open_commits.specs.Faults.{and_then}
+use Rattle.git_model.specs.Results.{and_then}
 use Rattle.open_commits.specs.OpenCommit.{OpenCommit, HeldCommit, commit_in}
 use Rattle.open_commits.specs.Storing.{stored, trees_stored}
 

@@ -33,13 +33,3 @@ editing_fault files_fault.RootNotDirectory = fault.RootNotDirectory
 editing_fault files_fault.NameCollision = fault.NameCollision
 editing_fault files_fault.Limit = fault.Limit
 editing_fault files_fault.Memory = fault.Memory
-
--- The next step, unless the first one is refused.
-abbrev pub and_then : {A B : Type 0} → Result A Fault → (A → Result B Fault) → Result B Fault
-and_then (Ok value) next = next value
-and_then (Err e) next = Err e
-
--- The value that must be there, or else this fault.
-abbrev pub or_fault : {A : Type 0} → Fault → Option A → Result A Fault
-or_fault e None = Err e
-or_fault e (Some value) = Ok value

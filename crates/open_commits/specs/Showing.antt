@@ -9,7 +9,7 @@ use Rattle.file_maps.specs.FileMap.{Path, FileMap}
 use Rattle.file_maps.specs.Edits.{files_at}
 use Rattle.file_maps.specs.Trees.{entry_at, nested_trees}
 use Rattle.open_commits.specs.declared.fault.Fault.{Fault}
-use Rattle.open_commits.specs.Faults.{and_then}
+use Rattle.git_model.specs.Results.{and_then}
 use Rattle.open_commits.specs.Storing.{trees_stored}
 
 -- The entry that is shown, and the objects afterwards.

@@ -8,12 +8,12 @@ use Rattle.pool_file_format.specs.declared.refusal.Refusal.{Refusal}
 use Rattle.pool_file_format.specs.declared.refusal.Refusal.TheVariants as refusal
 use Rattle.pool_file_format.specs.declared.fault.Fault.{Fault}
 use Rattle.pool_file_format.specs.declared.fault.Fault.TheVariants as fault
-use Rattle.pool_file_format.specs.Format.{RawRef, RawTenant}
-use Rattle.pool_file_format.specs.Lengths.{◌>>=◌, bytes_at, number_at, sized_at, counted_at, byte_at, object_at, ref_at, head_at, tenant_at}
-use Rattle.pool_file_format.specs.Taking.{Fails, Gave, ReadsValue}
+use Rattle.pool_file_format.specs.Lengths.{◌>>=◌, bytes_at, number_at, sized_at, counted_at, byte_at, object_at, ref_at, head_at, tenant_at, front_at, version_at, body_at, end_at, by_lengths}
+use Rattle.pool_file_format.specs.Format.{RawObject, RawRef, RawTenant, RawFile, magic}
+use Rattle.pool_file_format.specs.Taking.{Fails, Gave, ReadsBy, ReadsValue}
 use Rattle.pool_file_format.proofs.Calls.{blames_as}
 use Rattle.pool_file_format.proofs.Formats.{bytes_again}
-use Rattle.pool_file_format.proofs.Readings.{parts, reads_then, reads_fails, reads_value}
+use Rattle.pool_file_format.proofs.Readings.{parts, reads_value}
 
 -- ---- fields of a file
 
@@ -58,48 +58,6 @@ byte_fails {bound} size a b e same p = record {
         one fault.Memory q = tt
         one (fault.Refused r) q = absurd cc
 
-pub object_reads : {bound : ℕ} (kind : ℕ) (a b c : Device) (text : List ℕ) → ReadsValue bound byte_at a (Ok kind) b → ReadsValue bound (sized_at w64) b (Ok text) c
-    → ReadsValue bound object_at a (Ok (record { kind = kind; bytes = text })) c
-unfolding object_at
-object_reads kind a b c text p q =
-    reads_then byte_at (λ kind. sized_at w64 kind.1 >>= λ text. Ok (record { kind = kind.0; bytes = text.0 }, text.1)) a b c kind (Ok (record { kind = kind; bytes = text })) p
-    (reads_then (sized_at w64) (λ text. Ok (record { kind = kind; bytes = text.0 }, text.1)) b c c text (Ok (record { kind = kind; bytes = text })) q
-    (reads_value (record { kind = kind; bytes = text }) c))
-
-pub object_fails : {bound : ℕ} (kind : ℕ) (a b c : Device) (e : Fault) → ReadsValue bound byte_at a (Ok kind) b → ReadsValue {A = List ℕ} bound (sized_at w64) b (Err e) c → ReadsValue bound object_at a (Err e) c
-unfolding object_at
-object_fails kind a b c e p q =
-    reads_then byte_at (λ kind. sized_at w64 kind.1 >>= λ text. Ok (record { kind = kind.0; bytes = text.0 }, text.1)) a b c kind (Err e) p
-    (reads_fails (sized_at w64) (λ text. Ok (record { kind = kind; bytes = text.0 }, text.1)) b c e q)
-
-pub object_none : {bound : ℕ} (a b : Device) (e : Fault) → ReadsValue {A = ℕ} bound byte_at a (Err e) b → ReadsValue bound object_at a (Err e) b
-unfolding object_at
-object_none a b e p = reads_fails byte_at (λ kind. sized_at w64 kind.1 >>= λ text. Ok (record { kind = kind.0; bytes = text.0 }, text.1)) a b e p
-
--- ---- a ref
-
-abbrev pub ref_after : List ℕ → List ℕ → Result (RawRef × List ℕ) Refusal
-ref_after name rest = number_at w64 rest >>= λ place. Ok (record { name = name; place = place.0 }, place.1)
-
-pub ref_none : {bound : ℕ} (a b : Device) (e : Fault) → ReadsValue {A = List ℕ} bound (sized_at w16) a (Err e) b → ReadsValue bound ref_at a (Err e) b
-unfolding ref_at
-ref_none a b e p = reads_fails (sized_at w16) (λ name. ref_after name.0 name.1) a b e p
-
-pub ref_fails : {bound : ℕ} (name : List ℕ) (a b c : Device) (e : Fault) → ReadsValue bound (sized_at w16) a (Ok name) b → ReadsValue {A = ℕ} bound (number_at w64) b (Err e) c
-    → ReadsValue bound ref_at a (Err e) c
-unfolding ref_at
-ref_fails name a b c e p q =
-    reads_then (sized_at w16) (λ name. ref_after name.0 name.1) a b c name (Err e) p
-    (reads_fails (number_at w64) (λ place. Ok (record { name = name; place = place.0 }, place.1)) b c e q)
-
-pub ref_reads : {bound : ℕ} (name : List ℕ) (place : ℕ) (a b c : Device) → ReadsValue bound (sized_at w16) a (Ok name) b → ReadsValue bound (number_at w64) b (Ok place) c
-    → ReadsValue bound ref_at a (Ok (record { name = name; place = place })) c
-unfolding ref_at
-ref_reads name place a b c p q =
-    reads_then (sized_at w16) (λ name. ref_after name.0 name.1) a b c name (Ok (record { name = name; place = place })) p
-    (reads_then (number_at w64) (λ place. Ok (record { name = name; place = place.0 }, place.1)) b c c place (Ok (record { name = name; place = place })) q
-    (reads_value (record { name = name; place = place }) c))
-
 -- ---- HEAD
 
 pub head_first : {bound : ℕ} (version : ℕ) (head : List ℕ) (a : Device) → version ≡ 1 → head ≡ first_head → ReadsValue bound (head_at version) a (Ok head) a
@@ -111,49 +69,31 @@ unfolding head_at
 head_later {bound} version r a b other p =
     subst (λ (t : Bool). ReadsValue bound (λ bytes. cond t (Ok (first_head, bytes)) (sized_at w16 bytes)) a r b) (sym (ne_eqb version 1 other)) p
 
--- ---- a tenant
+-- ---- a part, as its parts are read one after another
 
-abbrev pub tenant_end : ℕ → List ℕ → List ℕ → List RawRef → List ℕ → Result (RawTenant × List ℕ) Refusal
-tenant_end version name numbers refs rest = head_at version rest >>= λ head. Ok (record { name = name; numbers = numbers; refs = refs; head = head.0 }, head.1)
+pub object_is : {bound : ℕ} {a b : Device} {r : Result RawObject Fault}
+    → ReadsValue bound (λ bytes. byte_at bytes >>= λ kind. sized_at w64 kind.1 >>= λ text. Ok (record { kind = kind.0; bytes = text.0 }, text.1)) a r b → ReadsValue bound object_at a r b
+unfolding object_at
+object_is p = p
 
-abbrev pub after_numbers : ℕ → List ℕ → List ℕ → List ℕ → Result (RawTenant × List ℕ) Refusal
-after_numbers version name numbers rest = counted_at ref_at rest >>= λ refs. tenant_end version name numbers refs.0 refs.1
+pub ref_is : {bound : ℕ} {a b : Device} {r : Result RawRef Fault}
+    → ReadsValue bound (λ bytes. sized_at w16 bytes >>= λ name. number_at w64 name.1 >>= λ place. Ok (record { name = name.0; place = place.0 }, place.1)) a r b → ReadsValue bound ref_at a r b
+unfolding ref_at
+ref_is p = p
 
-abbrev pub after_name : ℕ → List ℕ → List ℕ → Result (RawTenant × List ℕ) Refusal
-after_name version name rest = counted_at (number_at w64) rest >>= λ numbers. after_numbers version name numbers.0 numbers.1
-
-pub tenant_then : {bound : ℕ} (version : ℕ) (name : List ℕ) (a b c : Device) (r : Result RawTenant Fault) → ReadsValue bound (sized_at w16) a (Ok name) b
-    → ReadsValue bound (after_name version name) b r c → ReadsValue bound (tenant_at version) a r c
+pub tenant_is : {bound : ℕ} (version : ℕ) {a b : Device} {r : Result RawTenant Fault}
+    → ReadsValue bound (λ bytes. sized_at w16 bytes >>= λ name. counted_at (number_at w64) name.1 >>= λ numbers. counted_at ref_at numbers.1 >>= λ refs. head_at version refs.1
+    >>= λ head. Ok (record { name = name.0; numbers = numbers.0; refs = refs.0; head = head.0 }, head.1)) a r b → ReadsValue bound (tenant_at version) a r b
 unfolding tenant_at
-tenant_then version name a b c r p q = reads_then (sized_at w16) (λ name. after_name version name.0 name.1) a b c name r p q
+tenant_is version p = p
 
-pub tenant_none : {bound : ℕ} (version : ℕ) (a b : Device) (e : Fault) → ReadsValue {A = List ℕ} bound (sized_at w16) a (Err e) b → ReadsValue bound (tenant_at version) a (Err e) b
-unfolding tenant_at
-tenant_none version a b e p = reads_fails (sized_at w16) (λ name. after_name version name.0 name.1) a b e p
+pub body_is : {bound : ℕ} {a b : Device} {r : Result RawFile Fault}
+    → ReadsValue bound (λ bytes. front_at magic bytes >>= λ front. version_at front.1 >>= λ version. counted_at object_at version.1 >>= λ objects. counted_at (tenant_at version.0) objects.1
+    >>= λ tenants. Ok (record { version = version.0; objects = objects.0; tenants = tenants.0 }, tenants.1)) a r b → ReadsValue bound body_at a r b
+unfolding body_at
+body_is p = p
 
-pub name_then : {bound : ℕ} (version : ℕ) (name numbers : List ℕ) (a b c : Device) (r : Result RawTenant Fault) → ReadsValue bound (counted_at (number_at w64)) a (Ok numbers) b
-    → ReadsValue bound (after_numbers version name numbers) b r c → ReadsValue bound (after_name version name) a r c
-name_then version name numbers a b c r p q = reads_then (counted_at (number_at w64)) (λ numbers. after_numbers version name numbers.0 numbers.1) a b c numbers r p q
-
-pub name_fails : {bound : ℕ} (version : ℕ) (name : List ℕ) (a b : Device) (e : Fault) → ReadsValue {A = List ℕ} bound (counted_at (number_at w64)) a (Err e) b
-    → ReadsValue bound (after_name version name) a (Err e) b
-name_fails version name a b e p = reads_fails (counted_at (number_at w64)) (λ numbers. after_numbers version name numbers.0 numbers.1) a b e p
-
-pub numbers_then : {bound : ℕ} (version : ℕ) (name numbers : List ℕ) (refs : List RawRef) (a b c : Device) (r : Result RawTenant Fault) → ReadsValue bound (counted_at ref_at) a (Ok refs) b
-    → ReadsValue bound (tenant_end version name numbers refs) b r c → ReadsValue bound (after_numbers version name numbers) a r c
-numbers_then version name numbers refs a b c r p q = reads_then (counted_at ref_at) (λ refs. tenant_end version name numbers refs.0 refs.1) a b c refs r p q
-
-pub numbers_fail : {bound : ℕ} (version : ℕ) (name numbers : List ℕ) (a b : Device) (e : Fault) → ReadsValue {A = List RawRef} bound (counted_at ref_at) a (Err e) b
-    → ReadsValue bound (after_numbers version name numbers) a (Err e) b
-numbers_fail version name numbers a b e p = reads_fails (counted_at ref_at) (λ refs. tenant_end version name numbers refs.0 refs.1) a b e p
-
-pub end_reads : {bound : ℕ} (version : ℕ) (name numbers : List ℕ) (refs : List RawRef) (head : List ℕ) (a b : Device) → ReadsValue bound (head_at version) a (Ok head) b
-    → ReadsValue bound (tenant_end version name numbers refs) a (Ok (record { name = name; numbers = numbers; refs = refs; head = head })) b
-end_reads version name numbers refs head a b p =
-    reads_then (head_at version) (λ head. Ok (record { name = name; numbers = numbers; refs = refs; head = head.0 }, head.1)) a b b head
-    (Ok (record { name = name; numbers = numbers; refs = refs; head = head })) p
-    (reads_value (record { name = name; numbers = numbers; refs = refs; head = head }) b)
-
-pub end_fails : {bound : ℕ} (version : ℕ) (name numbers : List ℕ) (refs : List RawRef) (a b : Device) (e : Fault) → ReadsValue {A = List ℕ} bound (head_at version) a (Err e) b
-    → ReadsValue bound (tenant_end version name numbers refs) a (Err e) b
-end_fails version name numbers refs a b e p = reads_fails (head_at version) (λ head. Ok (record { name = name; numbers = numbers; refs = refs; head = head.0 }, head.1)) a b e p
+pub whole_is : {bound : ℕ} {a b : Device} {r : Result (RawFile × List ℕ) Fault}
+    → ReadsBy {A = RawFile × List ℕ} 1 bound (λ bytes. body_at bytes >>= λ body. bytes_at 20 body.1 >>= λ digest. end_at digest.1 >>= λ end. Ok ((body.0, digest.0), end.1)) a r b → ReadsBy 1 bound by_lengths a r b
+unfolding by_lengths
+whole_is p = p

@@ -1,8 +1,10 @@
 -- Readings one after another, and the same one many times.
 use Rattle.std.proofs.Common.{◌≡◌, ℕ, suc, ◌+◌, ◌-◌, ◌^◌, ◌<◌, ◌≤◌, Bool, true, false, cond, ltb, List, [], ◌∷◌, ◌++◌, length, take, drop, replicate, Option, None, Some, Result, Ok, Err, refl, sym, ap, subst, ◌∙◌, append_assoc, append-nil, arith}
+use Rattle.std.specs.Result.{IsErrAnd}
 use Rattle.std.specs.Int.{Width, w64, byte_len, from_be_bytes}
 use Rattle.std.proofs.lemmas.Bool.{ltb-false, ltb-true}
 use Rattle.std.proofs.lemmas.List.{length-append, length-take, take-append-drop, take_all, take_at, replicate-append-replicate}
+use Rattle.std.proofs.lemmas.Result.{err_from_is_err_and}
 use Rattle.byte_devices.specs.Device.{Device}
 use Rattle.pool_file_format.specs.declared.refusal.Refusal.{Refusal}
 use Rattle.pool_file_format.specs.declared.refusal.Refusal.TheVariants as refusal
@@ -40,18 +42,18 @@ gave_fails at k None new e p = tt
 gave_fails at k (Some bytes) new e p = fails_on e (at bytes) k p
 
 -- The first gave a value, and the other whatever it gave.
-pub reads_then : {A B : Type 0} {more bound : ℕ} (at : Read A) (k : A × List ℕ → Result (B × List ℕ) Refusal) (a b c : Device) (x : A) (r : Result B Fault)
+pub reads_then : {A B : Type 0} {more bound : ℕ} (at : Read A) (k : A × List ℕ → Result (B × List ℕ) Refusal) {a b c : Device} {x : A} {r : Result B Fault}
     → ReadsValue bound at a (Ok x) b → ReadsBy more bound (λ rest. k (x, rest)) b r c → ReadsBy more bound (λ bytes. at bytes >>= k) a r c
-reads_then at k a b c x r p q = record {
+reads_then at k {a} {b} {c} {x} {r} p q = record {
   gave = gave_then at k a.known b.known c.known x r p.gave q.gave;
   few = λ l. q.few (p.few l);
   blames = λ fits. let first = p.blames fits in blames_on _ _ r a b c first (q.blames (fits_after 0 a b first));
 }
 
 -- The first gave none.
-pub reads_fails : {A B : Type 0} {less more bound : ℕ} (at : Read A) (k : A × List ℕ → Result (B × List ℕ) Refusal) (a b : Device) (e : Fault)
+pub reads_fails : {A B : Type 0} {less more bound : ℕ} (at : Read A) (k : A × List ℕ → Result (B × List ℕ) Refusal) {a b : Device} {e : Fault}
     → ReadsBy less bound at a (Err e) b → ReadsBy {A = B} more bound (λ bytes. at bytes >>= k) a (Err e) b
-reads_fails {A} {B} {less} {more} {bound} at k a b e p = record {
+reads_fails {A} {B} {less} {more} {bound} at k {a} {b} {e} p = record {
   gave = gave_fails at k a.known b.known e p.gave;
   few = p.few;
   blames = λ fits. blames_as less more bound A B e a b (p.blames fits);
@@ -72,29 +74,50 @@ reads_starved at a = record { gave = starved_given at a.known a.known; few = λ 
 pub reads_stops : {A B : Type 0} {bound : ℕ} (at : Read A) (f : Read B) (a b : Device) (x : A) → ReadsValue bound at a (Ok x) b → ReadsValue bound f a (Err fault.Memory) b
 reads_stops at f a b x p = record { gave = starved_given f a.known b.known; few = p.few; blames = λ fits. well_looser a b (p.blames fits) }
 
--- ---- numbers, bytes after their length
+-- A fault goes on to whoever asked.
+pub fault_goes_on : {A : Type 0} {more bound : ℕ} {at : Read A} {a b : Device} (r : Result A Fault) (e : Fault) → IsErrAnd r (λ d. d ≡ e)
+    → ReadsBy more bound at a (Err e) b → ReadsBy more bound at a r b
+fault_goes_on r e is p = let q = err_from_is_err_and r is in rw (q.1, q.2) p
+
+pub stops : {A X : Type 0} {more bound : ℕ} {at : Read A} {a b : Device} (view : X → A) (r : Result X Fault) (e : Fault) → IsErrAnd r (λ d. d ≡ e)
+    → ReadsBy more bound at a (Err e) b → ReadsBy more bound at a (shown view r) b
+stops view r e is p = let q = err_from_is_err_and r is in rw (q.1, q.2) p
+
+-- ---- numbers
 
 pub number_reads : {bound : ℕ} (w : Width) (size : ℕ) (room : List ℕ) (n : ℕ) (a b : Device) → size ≡ byte_len w → n ≡ from_be_bytes w room
     → ReadsValue bound (bytes_at size) a (Ok room) b → ReadsValue bound (number_at w) a (Ok n) b
 unfolding number_at
 number_reads {bound} w size room n a b same is p =
     subst (λ (m : ℕ). ReadsValue bound (number_at w) a (Ok m) b) (sym is)
-    (reads_then (bytes_at (byte_len w)) (λ front. Ok (from_be_bytes w front.0, front.1)) a b b room (Ok (from_be_bytes w room))
+    (reads_then (bytes_at (byte_len w)) (λ front. Ok (from_be_bytes w front.0, front.1))
     (subst (λ (m : ℕ). ReadsValue bound (bytes_at m) a (Ok room) b) same p) (reads_value (from_be_bytes w room) b))
 
 pub number_fails : {bound : ℕ} (w : Width) (size : ℕ) (a b : Device) (e : Fault) → size ≡ byte_len w → ReadsValue bound (bytes_at size) a (Err e) b → ReadsValue bound (number_at w) a (Err e) b
 unfolding number_at
 number_fails {bound} w size a b e same p =
-    reads_fails (bytes_at (byte_len w)) (λ front. Ok (from_be_bytes w front.0, front.1)) a b e
+    reads_fails (bytes_at (byte_len w)) (λ front. Ok (from_be_bytes w front.0, front.1))
     (subst (λ (m : ℕ). ReadsValue bound (bytes_at m) a (Err e) b) same p)
 
-pub sized_reads : {bound : ℕ} (w : Width) (n : ℕ) (a b c : Device) (r : Result (List ℕ) Fault) → ReadsValue bound (number_at w) a (Ok n) b → ReadsValue bound (bytes_at n) b r c → ReadsValue bound (sized_at w) a r c
-unfolding sized_at
-sized_reads w n a b c r p q = reads_then (number_at w) (λ n. bytes_at n.0 n.1) a b c n r p q
+-- ---- a count, and what it counts
 
-pub sized_fails : {bound : ℕ} (w : Width) (a b : Device) (e : Fault) → ReadsValue bound (number_at w) a (Err e) b → ReadsValue bound (sized_at w) a (Err e) b
+pub sized_reads : {bound : ℕ} (w : Width) {n : ℕ} {a b c : Device} {r : Result (List ℕ) Fault} → ReadsValue bound (number_at w) a (Ok n) b → ReadsValue bound (bytes_at n) b r c
+    → ReadsValue bound (sized_at w) a r c
 unfolding sized_at
-sized_fails w a b e p = reads_fails (number_at w) (λ n. bytes_at n.0 n.1) a b e p
+sized_reads w p q = reads_then _ _ p q
+
+pub sized_fails : {bound : ℕ} (w : Width) {a b : Device} {e : Fault} → ReadsValue {A = ℕ} bound (number_at w) a (Err e) b → ReadsValue bound (sized_at w) a (Err e) b
+unfolding sized_at
+sized_fails w p = reads_fails _ _ p
+
+pub counted_reads : {A : Type 0} {bound : ℕ} (at : Read A) {n : ℕ} {a b c : Device} {r : Result (List A) Fault} → ReadsValue bound (number_at w64) a (Ok n) b → ReadsValue bound (many_at at n) b r c
+    → ReadsValue bound (counted_at at) a r c
+unfolding counted_at
+counted_reads at p q = reads_then _ _ p q
+
+pub counted_fails : {A : Type 0} {bound : ℕ} (at : Read A) {a b : Device} {e : Fault} → ReadsValue {A = ℕ} bound (number_at w64) a (Err e) b → ReadsValue bound (counted_at at) a (Err e) b
+unfolding counted_at
+counted_fails at p = reads_fails _ _ p
 
 -- ---- so many bytes in blocks
 
@@ -268,16 +291,6 @@ goes_done at count left a b xs none p = record {
 -- No room for one more.
 pub goes_starved : {A B : Type 0} {bound : ℕ} (at : Read A) (f : Read B) (count left : ℕ) (a b : Device) (xs : List A) → Goes bound at count a xs left b → ReadsValue bound f a (Err fault.Memory) b
 goes_starved at f count left a b xs p = record { gave = starved_given f a.known b.known; few = p.few; blames = λ fits. well_looser a b (p.well fits) }
-
--- ---- as many as a count says
-
-pub counted_reads : {A : Type 0} {bound : ℕ} (at : Read A) (n : ℕ) (a b c : Device) (r : Result (List A) Fault) → ReadsValue bound (number_at w64) a (Ok n) b → ReadsValue bound (many_at at n) b r c → ReadsValue bound (counted_at at) a r c
-unfolding counted_at
-counted_reads at n a b c r p q = reads_then (number_at w64) (λ n. many_at at n.0 n.1) a b c n r p q
-
-pub counted_fails : {A : Type 0} {bound : ℕ} (at : Read A) (a b : Device) (e : Fault) → ReadsValue bound (number_at w64) a (Err e) b → ReadsValue bound (counted_at at) a (Err e) b
-unfolding counted_at
-counted_fails at a b e p = reads_fails (number_at w64) (λ n. many_at at n.0 n.1) a b e p
 
 -- ---- a vector that grows by a room
 

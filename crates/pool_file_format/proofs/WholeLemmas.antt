@@ -72,13 +72,10 @@ leads_end whole rest a b c r p q = record {
 
 -- ---- the first bytes
 
-expected_given : ℕ → ℕ → List ℕ → Result (Unit × List ℕ) Refusal
-expected_given expected byte rest = cond (eqb byte expected) (Ok (tt, rest)) (Err refusal.NoPoolFile)
-
 pub expected_reads : {bound : ℕ} (expected byte : ℕ) (a b : Device) → byte ≡ expected → ReadsValue bound byte_at a (Ok byte) b → ReadsValue bound (expected_at expected) a (Ok tt) b
 unfolding expected_at
 expected_reads {bound} expected byte a b is p =
-    reads_then byte_at (λ byte. cond (eqb byte.0 expected) (Ok (tt, byte.1)) (Err refusal.NoPoolFile)) a b b byte (Ok tt) p
+    reads_then byte_at (λ byte. cond (eqb byte.0 expected) (Ok (tt, byte.1)) (Err refusal.NoPoolFile)) p
     (subst (λ (t : Bool). ReadsValue bound (λ rest. cond t (Ok (tt, rest)) (Err refusal.NoPoolFile)) b (Ok tt) b) (sym (eq-eqb byte expected is)) (reads_value tt b))
 
 refused_given : (A : Type 0) (r : Refusal) (a : Option (List ℕ)) → Gave {A = A} (λ rest. Err r) a (Err (fault.Refused r)) a
@@ -92,12 +89,8 @@ pub expected_other : {bound : ℕ} (expected byte : ℕ) (a b : Device) → ¬ (
     → ReadsValue bound (expected_at expected) a (Err (fault.Refused refusal.NoPoolFile)) b
 unfolding expected_at
 expected_other {bound} expected byte a b other p =
-    reads_then byte_at (λ byte. cond (eqb byte.0 expected) (Ok (tt, byte.1)) (Err refusal.NoPoolFile)) a b b byte (Err (fault.Refused refusal.NoPoolFile)) p
+    reads_then byte_at (λ byte. cond (eqb byte.0 expected) (Ok (tt, byte.1)) (Err refusal.NoPoolFile)) p
     (subst (λ (t : Bool). ReadsValue bound (λ rest. cond t (Ok (tt, rest)) (Err refusal.NoPoolFile)) b (Err (fault.Refused refusal.NoPoolFile)) b) (sym (ne_eqb byte expected other)) (reads_refused refusal.NoPoolFile b))
-
-pub expected_fails : {bound : ℕ} (expected : ℕ) (a b : Device) (e : Fault) → ReadsValue {A = ℕ} bound byte_at a (Err e) b → ReadsValue bound (expected_at expected) a (Err e) b
-unfolding expected_at
-expected_fails expected a b e p = reads_fails byte_at (λ byte. cond (eqb byte.0 expected) (Ok (tt, byte.1)) (Err refusal.NoPoolFile)) a b e p
 
 pub drop_next : (xs : List ℕ) (i : ℕ) → i < length xs → drop i xs ≡ get_or xs i 0 ∷ drop (i + 1) xs
 drop_next xs i less = let e : suc i ≡ i + 1 = omega arith in drop-cons xs i 0 less ∙ ap (λ (n : ℕ). get_or xs i 0 ∷ drop n xs) e
@@ -114,7 +107,7 @@ pub front_fails : {bound : ℕ} (all left more : List ℕ) (byte : ℕ) (a b c :
 unfolding front_at
 front_fails {bound} all left more byte a b c e is p q =
     leads_end (front_at all) (front_at (byte ∷ more)) a b c (Err e) (subst (λ (l : List ℕ). Leads bound (front_at all) a (front_at l) b) is p)
-    (reads_fails (expected_at byte) (λ first. front_at more first.1) b c e q)
+    (reads_fails (expected_at byte) (λ first. front_at more first.1) q)
 
 pub front_done : {bound : ℕ} (all left : List ℕ) (a b : Device) → left ≡ [] → Leads bound (front_at all) a (front_at left) b → ReadsValue bound (front_at all) a (Ok tt) b
 unfolding front_at
@@ -123,69 +116,18 @@ front_done {bound} all left a b none p =
 
 -- ---- the version
 
-version_given : Bool → ℕ × List ℕ → Result (ℕ × List ℕ) Refusal
-version_given t version = cond t (Ok version) (Err refusal.UnknownVersion)
-
-pub version_fails : {bound : ℕ} (a b : Device) (e : Fault) → ReadsValue {A = ℕ} bound (number_at w32) a (Err e) b → ReadsValue bound version_at a (Err e) b
-unfolding version_at
-version_fails a b e p = reads_fails (number_at w32) (λ version. cond (eqb version.0 1 || eqb version.0 2) (Ok version) (Err refusal.UnknownVersion)) a b e p
-
 pub version_reads : {bound : ℕ} (version : ℕ) (a b : Device) → (eqb version 1 || eqb version 2) ≡ true → ReadsValue bound (number_at w32) a (Ok version) b → ReadsValue bound version_at a (Ok version) b
 unfolding version_at
 version_reads {bound} version a b known p =
-    reads_then (number_at w32) (λ version. cond (eqb version.0 1 || eqb version.0 2) (Ok version) (Err refusal.UnknownVersion)) a b b version (Ok version) p
+    reads_then (number_at w32) (λ version. cond (eqb version.0 1 || eqb version.0 2) (Ok version) (Err refusal.UnknownVersion)) p
     (subst (λ (t : Bool). ReadsValue bound (λ rest. cond t (Ok (version, rest)) (Err refusal.UnknownVersion)) b (Ok version) b) (sym known) (reads_value version b))
 
 pub version_other : {bound : ℕ} (version : ℕ) (a b : Device) → (eqb version 1 || eqb version 2) ≡ false → ReadsValue bound (number_at w32) a (Ok version) b
     → ReadsValue bound version_at a (Err (fault.Refused refusal.UnknownVersion)) b
 unfolding version_at
 version_other {bound} version a b other p =
-    reads_then (number_at w32) (λ version. cond (eqb version.0 1 || eqb version.0 2) (Ok version) (Err refusal.UnknownVersion)) a b b version (Err (fault.Refused refusal.UnknownVersion)) p
+    reads_then (number_at w32) (λ version. cond (eqb version.0 1 || eqb version.0 2) (Ok version) (Err refusal.UnknownVersion)) p
     (subst (λ (t : Bool). ReadsValue bound (λ rest. cond t (Ok (version, rest)) (Err refusal.UnknownVersion)) b (Err (fault.Refused refusal.UnknownVersion)) b) (sym other) (reads_refused refusal.UnknownVersion b))
-
--- ---- the body
-
-abbrev pub after_objects : ℕ → List RawObject → List ℕ → Result (RawFile × List ℕ) Refusal
-after_objects version objects rest = counted_at (tenant_at version) rest >>= λ tenants. Ok (record { version = version; objects = objects; tenants = tenants.0 }, tenants.1)
-
-abbrev pub after_version : ℕ → List ℕ → Result (RawFile × List ℕ) Refusal
-after_version version rest = counted_at object_at rest >>= λ objects. after_objects version objects.0 objects.1
-
-abbrev pub after_front : List ℕ → Result (RawFile × List ℕ) Refusal
-after_front rest = version_at rest >>= λ version. after_version version.0 version.1
-
-pub body_none : {bound : ℕ} (a b : Device) (e : Fault) → ReadsValue {A = Unit} bound (front_at magic) a (Err e) b → ReadsValue bound body_at a (Err e) b
-unfolding body_at
-body_none a b e p = reads_fails (front_at magic) (λ front. after_front front.1) a b e p
-
-pub body_then : {bound : ℕ} (a b c : Device) (r : Result RawFile Fault) → ReadsValue bound (front_at magic) a (Ok tt) b → ReadsValue bound after_front b r c → ReadsValue bound body_at a r c
-unfolding body_at
-body_then a b c r p q = reads_then (front_at magic) (λ front. after_front front.1) a b c tt r p q
-
-pub version_none : {bound : ℕ} (a b : Device) (e : Fault) → ReadsValue {A = ℕ} bound version_at a (Err e) b → ReadsValue bound after_front a (Err e) b
-version_none a b e p = reads_fails version_at (λ version. after_version version.0 version.1) a b e p
-
-pub version_then : {bound : ℕ} (version : ℕ) (a b c : Device) (r : Result RawFile Fault) → ReadsValue bound version_at a (Ok version) b → ReadsValue bound (after_version version) b r c
-    → ReadsValue bound after_front a r c
-version_then version a b c r p q = reads_then version_at (λ version. after_version version.0 version.1) a b c version r p q
-
-pub objects_none : {bound : ℕ} (version : ℕ) (a b : Device) (e : Fault) → ReadsValue {A = List RawObject} bound (counted_at object_at) a (Err e) b → ReadsValue bound (after_version version) a (Err e) b
-objects_none version a b e p = reads_fails (counted_at object_at) (λ objects. after_objects version objects.0 objects.1) a b e p
-
-pub objects_then : {bound : ℕ} (version : ℕ) (objects : List RawObject) (a b c : Device) (r : Result RawFile Fault) → ReadsValue bound (counted_at object_at) a (Ok objects) b
-    → ReadsValue bound (after_objects version objects) b r c → ReadsValue bound (after_version version) a r c
-objects_then version objects a b c r p q = reads_then (counted_at object_at) (λ objects. after_objects version objects.0 objects.1) a b c objects r p q
-
-pub tenants_none : {bound : ℕ} (version : ℕ) (objects : List RawObject) (a b : Device) (e : Fault) → ReadsValue {A = List RawTenant} bound (counted_at (tenant_at version)) a (Err e) b
-    → ReadsValue bound (after_objects version objects) a (Err e) b
-tenants_none version objects a b e p = reads_fails (counted_at (tenant_at version)) (λ tenants. Ok (record { version = version; objects = objects; tenants = tenants.0 }, tenants.1)) a b e p
-
-pub tenants_read : {bound : ℕ} (version : ℕ) (objects : List RawObject) (tenants : List RawTenant) (a b : Device) → ReadsValue bound (counted_at (tenant_at version)) a (Ok tenants) b
-    → ReadsValue bound (after_objects version objects) a (Ok (record { version = version; objects = objects; tenants = tenants })) b
-tenants_read version objects tenants a b p =
-    reads_then (counted_at (tenant_at version)) (λ tenants. Ok (record { version = version; objects = objects; tenants = tenants.0 }, tenants.1)) a b b tenants
-    (Ok (record { version = version; objects = objects; tenants = tenants })) p
-    (reads_value (record { version = version; objects = objects; tenants = tenants }) b)
 
 -- ---- the end
 
@@ -238,33 +180,7 @@ end_out bound a out = record {
 
 -- ---- the whole
 
-abbrev pub after_digest : RawFile → List ℕ → List ℕ → Result ((RawFile × List ℕ) × List ℕ) Refusal
-after_digest file digest rest = end_at rest >>= λ end. Ok ((file, digest), end.1)
-
-abbrev pub after_body : RawFile → List ℕ → Result ((RawFile × List ℕ) × List ℕ) Refusal
-after_body file rest = bytes_at 20 rest >>= λ digest. after_digest file digest.0 digest.1
-
-pub whole_none : {bound : ℕ} (a b : Device) (e : Fault) → ReadsValue {A = RawFile} bound body_at a (Err e) b → ReadsBy 1 bound by_lengths a (Err e) b
-unfolding by_lengths
-whole_none a b e p = reads_fails body_at (λ body. after_body body.0 body.1) a b e p
-
-pub whole_then : {bound : ℕ} (file : RawFile) (a b c : Device) (r : Result (RawFile × List ℕ) Fault) → ReadsValue bound body_at a (Ok file) b → ReadsBy 1 bound (after_body file) b r c
-    → ReadsBy 1 bound by_lengths a r c
-unfolding by_lengths
-whole_then file a b c r p q = reads_then body_at (λ body. after_body body.0 body.1) a b c file r p q
-
-pub digest_none : {bound : ℕ} (file : RawFile) (a b : Device) (e : Fault) → ReadsValue {A = List ℕ} bound (bytes_at 20) a (Err e) b → ReadsBy 1 bound (after_body file) a (Err e) b
-digest_none file a b e p = reads_fails (bytes_at 20) (λ digest. after_digest file digest.0 digest.1) a b e p
-
-pub digest_then : {bound : ℕ} (file : RawFile) (digest : List ℕ) (a b c : Device) (r : Result (RawFile × List ℕ) Fault) → ReadsValue bound (bytes_at 20) a (Ok digest) b
-    → ReadsBy 1 bound (after_digest file digest) b r c → ReadsBy 1 bound (after_body file) a r c
-digest_then file digest a b c r p q = reads_then (bytes_at 20) (λ digest. after_digest file digest.0 digest.1) a b c digest r p q
-
-pub end_none : {bound : ℕ} (file : RawFile) (digest : List ℕ) (a b : Device) (e : Fault) → ReadsBy {A = Unit} 1 bound end_at a (Err e) b
-    → ReadsBy 1 bound (after_digest file digest) a (Err e) b
-end_none file digest a b e p = reads_fails end_at (λ end. Ok ((file, digest), end.1)) a b e p
-
-pub end_then : {bound : ℕ} (file : RawFile) (digest : List ℕ) (a b : Device) → ReadsBy 1 bound end_at a (Ok tt) b → ReadsBy 1 bound (after_digest file digest) a (Ok (file, digest)) b
+pub end_then : {bound : ℕ} (file : RawFile) (digest : List ℕ) (a b : Device) → ReadsBy 1 bound end_at a (Ok tt) b → ReadsBy {A = RawFile × List ℕ} 1 bound (λ rest. end_at rest >>= λ end. Ok ((file, digest), end.1)) a (Ok (file, digest)) b
 end_then file digest a b p = record {
   gave = gave_then end_at (λ end. Ok ((file, digest), end.1)) a.known b.known b.known tt (Ok (file, digest)) p.gave (value_given (file, digest) b.known);
   blames = p.blames;

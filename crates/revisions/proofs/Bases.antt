@@ -6,7 +6,7 @@ use Rattle.hex.specs.Hex.{decode_sized}
 use Rattle.git_model.specs.RefStore.{RefStore, target_of}
 use Rattle.git_model.specs.Repository.{Object}
 use Rattle.revisions.specs.declared.fault.Fault.TheVariants as fault
-use Rattle.revisions.specs.Faults.{or_fault}
+use Rattle.git_model.specs.Results.{or_fault}
 use Rattle.revisions.specs.Resolution.{is_head, if_there, ref_meant_by, ref_or_abbreviation, digits_or_ref, base_named}
 
 pub base-head : (os : List Object) (store : RefStore) (base : List ℕ) → is_head base ≡ true

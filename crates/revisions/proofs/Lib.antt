@@ -9,5 +9,6 @@ pub mod ReadingSteps
 pub mod Steppings
 pub mod Steps
 pub mod Suffixes
+pub mod TagWays
 pub mod Valid
 pub mod Differences

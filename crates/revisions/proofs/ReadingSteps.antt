@@ -6,7 +6,7 @@ use Rattle.revisions.specs.declared.fault.Fault.{Fault}
 use Rattle.revisions.specs.declared.fault.Fault.TheVariants as fault
 use Rattle.revisions.specs.declared.suffix.Suffix.{Suffix}
 use Rattle.revisions.specs.Expressions.{Expression}
-use Rattle.revisions.specs.Faults.{and_then, or_fault}
+use Rattle.git_model.specs.Results.{and_then, or_fault}
 use Rattle.revisions.specs.ExpressionReading.{cut, is_mark, is_colon, is_base, suffixes_of, path_suffix, after_colon, expression_of}
 use Rattle.revisions.proofs.Suffixes.{expression_is}
 use Rattle.revisions.proofs.Steps.{or_fault-map}

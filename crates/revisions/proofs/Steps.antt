@@ -4,7 +4,8 @@ use Rattle.std.specs.Prelude.{◌≢◌}
 use Rattle.std.specs.Option.{option_map, option_and_then}
 use Rattle.revisions.specs.declared.fault.Fault.{Fault}
 use Rattle.revisions.specs.declared.fault.Fault.TheVariants as fault
-use Rattle.revisions.specs.Faults.{and_then, or_fault, GivesBy, Gives}
+use Rattle.git_model.specs.Results.{and_then, or_fault}
+use Rattle.revisions.specs.Faults.{GivesBy, Gives}
 
 -- where the first step is refused, so is the whole
 pub refused : {X Y Z : Type 0} (view : Z → Y) (r : Result Z Fault) (e : Fault)

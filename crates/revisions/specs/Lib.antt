@@ -5,6 +5,7 @@ pub mod Expressions
 pub mod ExpressionReading
 pub mod Resolution
 pub mod FirstParents
+pub mod TagEnds
 pub mod Ways
 pub mod Ranges
 pub mod Logs

@@ -8,7 +8,7 @@ use Rattle.revisions.specs.declared.fault.Fault.TheVariants as fault
 use Rattle.revisions.specs.declared.commit_range.Range.{Range}
 use Rattle.revisions.specs.Expressions.{Expression}
 use Rattle.revisions.specs.ExpressionReading.{range_of}
-use Rattle.revisions.specs.Faults.{and_then, or_fault}
+use Rattle.git_model.specs.Results.{and_then, or_fault}
 use Rattle.revisions.specs.Ranges.{is_in_range, range_named}
 
 -- The log of a range of expressions.

@@ -5,7 +5,7 @@ use Rattle.git_model.specs.RefStore.{RefStore}
 use Rattle.git_model.specs.Repository.{Object}
 use Rattle.git_model.specs.Reach.{reaches}
 use Rattle.revisions.specs.declared.fault.Fault.{Fault}
-use Rattle.revisions.specs.Faults.{and_then}
+use Rattle.git_model.specs.Results.{and_then}
 use Rattle.revisions.specs.declared.commit_range.Range.{Range}
 use Rattle.revisions.specs.declared.commit_range.Range.TheVariants.{From, Between, Either}
 use Rattle.revisions.specs.Expressions.{Expression}

@@ -17,7 +17,7 @@ use Rattle.tenant_tables.specs.declared.found.Found.TheVariants as found
 use Rattle.tenant_tables.specs.Abbreviation.{found_among}
 use Rattle.revisions.specs.declared.fault.Fault.{Fault}
 use Rattle.revisions.specs.declared.fault.Fault.TheVariants as fault
-use Rattle.revisions.specs.Faults.{and_then, or_fault}
+use Rattle.git_model.specs.Results.{and_then, or_fault}
 use Rattle.revisions.specs.declared.suffix.Suffix.{Suffix}
 use Rattle.revisions.specs.declared.suffix.Suffix.TheVariants.{Parent, Ancestor, PeelTo, PeelTags, Itself, AtPath}
 use Rattle.revisions.specs.Expressions.{Path, Expression}

@@ -4,7 +4,8 @@ ghost use Rattle.std.specs.Prelude.{◌≡◌, ◌++◌, ◌∷◌, [], Option, 
 ghost use Rattle.git_model.specs.RefStore.{target_of};
 ghost use Rattle.tenant_tables.specs.Abbreviation.{found_among};
 ghost use Rattle.revisions.specs.declared.fault.Fault.TheVariants as fault;
-ghost use Rattle.revisions.specs.Faults.{Gives, or_fault};
+ghost use Rattle.git_model.specs.Results.{or_fault};
+ghost use Rattle.revisions.specs.Faults.{Gives};
 ghost use Rattle.revisions.specs.Resolution.{is_head, ref_meant_by, only_one, abbreviated, ref_or_abbreviation, if_there, base_named};
 
 use crate::fault::Fault;

@@ -5,7 +5,8 @@ ghost use Rattle.std.specs.Option.{option_map};
 ghost use Rattle.git_model.specs.Bytes.{holds};
 ghost use Rattle.git_paths.specs.Reading.{canonical_path};
 ghost use Rattle.revisions.specs.declared.fault.Fault.TheVariants as fault;
-ghost use Rattle.revisions.specs.Faults.{Gives, GivesBy, or_fault};
+ghost use Rattle.git_model.specs.Results.{or_fault};
+ghost use Rattle.revisions.specs.Faults.{Gives, GivesBy};
 ghost use Rattle.revisions.specs.ExpressionReading.{is_base, cut, suffixes_of, path_suffix, expression_of};
 
 use crate::cutting::{split_at_colon, split_at_mark, split_at_part, take_piece};

@@ -5,7 +5,8 @@ ghost use Rattle.git_model.specs.Repository.{Object};
 ghost use Rattle.git_model.specs.GoodRepository.{AreObjects, IsValid};
 ghost use Rattle.git_model.specs.Peeling.{is_of, is_there_untagged, next_from, next_to};
 ghost use Rattle.revisions.specs.declared.fault.Fault.TheVariants as fault;
-ghost use Rattle.revisions.specs.Faults.{Gives, or_fault};
+ghost use Rattle.git_model.specs.Results.{or_fault};
+ghost use Rattle.revisions.specs.Faults.{Gives};
 ghost use Rattle.revisions.specs.Ways.{is_end, first_end};
 ghost use Rattle.revisions.specs.Resolution.{peeled, peeled_untagged};
 
@@ -26,7 +27,7 @@ fn is_of<N: Naming>(objects: &Objects<'_, N>, wanted: Kind, id: &Name) -> bool
 }
 
 // Whether there is an object of this name that is no tag.
-fn is_there_untagged<N: Naming>(objects: &Objects<'_, N>, id: &Name) -> bool
+pub(crate) fn is_there_untagged<N: Naming>(objects: &Objects<'_, N>, id: &Name) -> bool
     ensures { result ≡ is_there_untagged objects.now id.now }
 {
     match objects.get(id) {
@@ -53,7 +54,7 @@ fn next_from(
 }
 
 // The next object when this one is peeled to the wanted kind.
-fn next_to<N: Naming>(
+pub(crate) fn next_to<N: Naming>(
     alloc: Global,
     objects: &Objects<'_, N>,
     wanted: Kind,

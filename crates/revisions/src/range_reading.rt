@@ -1,7 +1,8 @@
 //! How ranges are read: gitrevisions(7), "Specifying Ranges". Nothing is looked up.
 
 ghost use Rattle.revisions.specs.declared.fault.Fault.TheVariants as fault;
-ghost use Rattle.revisions.specs.Faults.{Gives, or_fault};
+ghost use Rattle.git_model.specs.Results.{or_fault};
+ghost use Rattle.revisions.specs.Faults.{Gives};
 ghost use Rattle.revisions.specs.ExpressionReading.{side_of, sides_of, either_of, between_of, dotted, range_of};
 
 use crate::commit_range::Range;

@@ -9,15 +9,17 @@ ghost use Rattle.revisions.specs.Faults.{Gives};
 ghost use Rattle.revisions.specs.FirstParents.{IsFirstParentChain};
 ghost use Rattle.revisions.specs.Ranges.{commit_named};
 ghost use Rattle.revisions.specs.Resolution.{at_path, after_suffix, after_suffixes, named_by, resolved};
+ghost use Rattle.revisions.specs.TagEnds.{AreChains, AreTagEnds};
 
 use crate::base::{base_named, if_there};
 use crate::expression::Expression;
 use crate::fault::Fault;
 use crate::first_parents::FirstParentCache;
 use crate::parents::nth_parent;
-use crate::peeling::{peel, peel_tags};
+use crate::peeling::peel;
 use crate::stored_path::entry_below;
 use crate::suffix::Suffix;
+use crate::tag_ends::{ChainCache, TagCache, peel_along, peel_tags_along};
 use content_pool::Pool;
 use git_objects::{FileMode, Kind, Name, Naming, TreeEntry};
 use git_paths::Path;
@@ -56,28 +58,32 @@ fn after_suffix<N: Naming>(
     alloc: Global,
     objects: &Objects<'_, N>,
     chain: &mut FirstParentCache,
+    tags: &mut TagCache,
     suffix: &Suffix,
     id: Name,
 ) -> Result<Name, Fault>
     ensures found { AreObjects N.digest_of objects.now → IsFirstParentChain objects.now chain.old
+        → AreTagEnds objects.now tags.old
         → Gives result (after_suffix objects.now suffix.now id) }
     ensures chain { AreObjects N.digest_of objects.now → IsFirstParentChain objects.now chain.old
         → IsFirstParentChain objects.now chain.new }
+    ensures tags { AreObjects N.digest_of objects.now → AreTagEnds objects.now tags.old
+        → AreTagEnds objects.now tags.new }
 {
     match suffix {
         Suffix::Parent(n) => {
-            let commit = peel(alloc, objects, Kind::Commit, id)?;
+            let commit = peel_along(alloc, objects, tags, Kind::Commit, id)?;
             nth_parent(alloc, objects, *n, commit)
         }
         Suffix::Ancestor(n) => {
-            let commit = peel(alloc, objects, Kind::Commit, id)?;
+            let commit = peel_along(alloc, objects, tags, Kind::Commit, id)?;
             chain.ancestor(alloc, objects, *n, commit)
         }
-        Suffix::PeelTo(kind) => peel(alloc, objects, *kind, id),
-        Suffix::PeelTags => peel_tags(alloc, objects, id),
+        Suffix::PeelTo(kind) => peel_along(alloc, objects, tags, *kind, id),
+        Suffix::PeelTags => peel_tags_along(alloc, objects, tags, id),
         Suffix::Itself => Ok(id),
         Suffix::AtPath(path) => {
-            let tree = peel(alloc, objects, Kind::Tree, id)?;
+            let tree = peel_along(alloc, objects, tags, Kind::Tree, id)?;
             at_path(alloc, objects, path, tree)
         }
     }
@@ -88,17 +94,21 @@ fn after_suffixes<N: Naming>(
     alloc: Global,
     objects: &Objects<'_, N>,
     chain: &mut FirstParentCache,
+    tags: &mut TagCache,
     suffixes: &[Suffix],
     id: Name,
 ) -> Result<Name, Fault>
     ensures found { AreObjects N.digest_of objects.now → IsFirstParentChain objects.now chain.old
+        → AreTagEnds objects.now tags.old
         → Gives result (after_suffixes objects.now suffixes.now id) }
     ensures chain { AreObjects N.digest_of objects.now → IsFirstParentChain objects.now chain.old
         → IsFirstParentChain objects.now chain.new }
+    ensures tags { AreObjects N.digest_of objects.now → AreTagEnds objects.now tags.old
+        → AreTagEnds objects.now tags.new }
 {
     let mut at = id;
     for suffix in suffixes {
-        at = after_suffix(alloc, objects, chain, suffix, at)?;
+        at = after_suffix(alloc, objects, chain, tags, suffix, at)?;
     }
     Ok(at)
 }
@@ -132,8 +142,35 @@ pub fn resolve_expression<N: Naming>(
     ensures chain { AreObjects N.digest_of objects.now → IsFirstParentChain objects.now chain.old
         → IsFirstParentChain objects.now chain.new }
 {
+    let mut tags = TagCache::new(alloc);
     let id = base_named(alloc, objects, refs, expression.base())?;
-    after_suffixes(alloc, objects, chain, expression.suffixes(), id)
+    after_suffixes(alloc, objects, chain, &mut tags, expression.suffixes(), id)
+}
+
+/// `resolve_expression`, with what earlier calls kept of their ways along tags too. The answer is
+/// the same; no refusal comes of what is kept.
+#[tactic(auto, unfolding(crate::specs::Resolution::named_by))]
+pub fn resolve_with_tags<N: Naming>(
+    alloc: Global,
+    objects: &Objects<'_, N>,
+    refs: &Refs,
+    chains: &mut ChainCache,
+    expression: &Expression<'_>,
+) -> Result<Name, Fault>
+    ensures found { AreObjects N.digest_of objects.now → AreChains objects.now chains.old
+        → Gives result (named_by objects.now refs.now expression.now) }
+    ensures chains { AreObjects N.digest_of objects.now → AreChains objects.now chains.old
+        → AreChains objects.now chains.new }
+{
+    let id = base_named(alloc, objects, refs, expression.base())?;
+    after_suffixes(
+        alloc,
+        objects,
+        &mut chains.first_parents,
+        &mut chains.tags,
+        expression.suffixes(),
+        id,
+    )
 }
 
 /// The commit that one side of a range names: `resolve_expression`, peeled to a commit.

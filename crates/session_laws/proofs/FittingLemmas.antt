@@ -52,7 +52,8 @@ use Rattle.stream_parts.specs.declared.headers.InlineFile.{InlineFile}
 use Rattle.stream_parts.specs.OpenCommand.{OpenCommand, changes_in, commit_header_in, inline_in, tag_header_in}
 use Rattle.stream_parts.specs.OpenCommand as open_command
 use Rattle.stream_parts.specs.Branches.{branch_set, tip_commit, tip_for}
-use Rattle.stream_parts.specs.Faults.{and_then, text_first}
+use Rattle.git_model.specs.Results.{and_then}
+use Rattle.stream_parts.specs.Faults.{text_first}
 use Rattle.stream_parts.specs.Marks.{referred_name}
 use Rattle.stream_parts.specs.Printing.{shown_object}
 use Rattle.stream_parts.specs.Showing.{entry_shown}

@@ -47,7 +47,8 @@ use Rattle.stream_parts.specs.OpenCommand.{OpenCommand, already_said, changes_in
 use Rattle.stream_parts.specs.OpenCommand as open_command
 use Rattle.stream_parts.specs.Branches.{Branches, branch_set, commit_at, has_branch_room, tip_commit, tip_for, tip_of}
 use Rattle.stream_parts.specs.Checkpoints.{fit}
-use Rattle.stream_parts.specs.Faults.{and_then, or_fault, resolved_or}
+use Rattle.git_model.specs.Results.{and_then, or_fault}
+use Rattle.stream_parts.specs.Faults.{resolved_or}
 use Rattle.stream_parts.specs.Marks.{Marks, found_mark, has_room, marked_name, referred_name, room_for}
 use Rattle.stream_parts.specs.Printing.{shown_content, shown_object}
 use Rattle.stream_parts.specs.Showing.{entry_shown, tree_in}

@@ -25,7 +25,7 @@ use Rattle.file_maps.specs.StoredFiles.{commit_map, stored_files, tree_of_commit
 use Rattle.file_maps.proofs.Maps.{empty-of}
 use Rattle.tenant_tables.proofs.StoredGood.{Grows}
 use Rattle.open_commits.specs.declared.fault.Fault.{Fault as CommitFault}
-use Rattle.open_commits.specs.Faults.{and_then as commit_then}
+use Rattle.git_model.specs.Results.{and_then}
 use Rattle.open_commits.specs.Changes.{Left, Marks, all_deleted, blob_of, blob_put, contents_put, copied_to, deleted, entry_of, file_put, link_of, modified, renamed_to, tree_of}
 use Rattle.open_commits.specs.Storing.{stored}
 use Rattle.open_commits.specs.GoodCommits.{AreMarks, GrowGood, IsGoodCommit, IsGoodHeader}
@@ -77,13 +77,13 @@ changed_ref commit files (Some refusal) ref = tt
 
 after_good : {A B : Type 0} (P : A → Type 0) (Q : B → Type 0) (r : Result A CommitFault)
     (next : A → Result B CommitFault) → IfOk r P → ((value : A) → P value → IfOk (next value) Q)
-    → IfOk (commit_then r next) Q
+    → IfOk (and_then r next) Q
 after_good P Q (Ok value) next good later = later value good
 after_good P Q (Err e) next good later = tt
 
 after_any : {A B : Type 0} (Q : B → Type 0) (r : Result A CommitFault)
     (next : A → Result B CommitFault) → ((value : A) → IfOk (next value) Q)
-    → IfOk (commit_then r next) Q
+    → IfOk (and_then r next) Q
 after_any Q (Ok value) next later = later value
 after_any Q (Err e) next later = tt
 

@@ -45,7 +45,8 @@ use Rattle.stream_parts.specs.declared.fault.Fault.{Fault}
 use Rattle.stream_parts.specs.declared.headers.CommitHeader.{CommitHeader}
 use Rattle.stream_parts.specs.declared.headers.TagHeader.{TagHeader}
 use Rattle.stream_parts.specs.declared.headers.InlineFile.{InlineFile}
-use Rattle.stream_parts.specs.Faults.{and_then, text_first}
+use Rattle.git_model.specs.Results.{and_then}
+use Rattle.stream_parts.specs.Faults.{text_first}
 use Rattle.stream_commands.specs.Faults.{changed_or}
 use Rattle.stream_parts.specs.Branches.{Branches, branch_set, has_branch_room, head_in, ref_meant, with_branch, tip_commit, tip_for}
 use Rattle.stream_parts.specs.Marks.{marked_name, referred_name, room_for, with_mark}

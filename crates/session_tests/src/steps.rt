@@ -246,6 +246,24 @@ const ASKED: &str = "\
     d63fabf8785a2c91a5fb7c1a77eec6f39076adcf\n\
     0e70fe51b4eae4c7dbc085ce309d883cf8805175\n";
 
+// A commit on `m`, and one on `n`. Then tags, each of what was tagged before it, and after each the
+// commit that it is peeled to.
+const TAGGED_ON_M: &str = "commit refs/heads/m|mark :1|committer|=first\n||";
+
+const TAGGED_ON_N: &str = "commit refs/heads/n|mark :1|committer|=other\n||";
+
+const TAG_OF_LAST: &str = "\
+    tag v|mark :1|from :1|tagger|=first\n|alias|mark :2|to :1|get-mark :2|";
+
+// The same of the last tag by its ref, in two ways.
+const LAST_BY_REF: &str = "\
+    checkpoint|alias|mark :2|to v^0|get-mark :2|alias|mark :2|to v^{}|get-mark :2|done";
+
+// The names that git gives these commits.
+const COMMIT_ON_M: &str = "368a99d5f13f00091e71e3386817d88c4c6e4e8d\n";
+
+const COMMIT_ON_N: &str = "24af5e0ff589916ea161bef7274d7684efb2ddb3\n";
+
 const FULL: usize = 65_536;
 
 // Streams over as many refs as there may be, `refs/tags/v` not among them. Each case goes on with
@@ -536,6 +554,28 @@ fn asks_so(alloc: Global) -> Result<bool, AllocError> {
     Ok(left.number == 0 && out.as_slice() == ASKED.as_bytes())
 }
 
+// The steps of a stream with a long chain of tags on each of two commits, each tag used.
+fn tagging_steps(alloc: Global) -> Result<String, AllocError> {
+    let tags = TAG_OF_LAST.repeat(alloc, 40)?;
+    let mut steps = TAGGED_ON_M.repeat(alloc, 1)?;
+    steps.push_str(&tags)?;
+    steps.push_str(TAGGED_ON_N)?;
+    steps.push_str(&tags)?;
+    steps.push_str(LAST_BY_REF)?;
+    Ok(steps)
+}
+
+// Whether each tag is peeled to the commit of its chain.
+fn peels_so(alloc: Global) -> Result<bool, AllocError> {
+    let steps = tagging_steps(alloc)?;
+    let mut commits = COMMIT_ON_M.repeat(alloc, 40)?;
+    commits.push_str(&COMMIT_ON_N.repeat(alloc, 42)?)?;
+    let mut out = Vec::new(alloc);
+    let mut refs = Refs::new(alloc);
+    let left = run(alloc, Sha1Naming, &mut refs, &steps, &mut out);
+    Ok(left.number == 0 && out.as_slice() == commits.as_bytes())
+}
+
 fn first_wrong_case(alloc: Global) -> Option<&'static str> {
     for case in CASES.split('#') {
         if !does_so(alloc, case) {
@@ -615,6 +655,12 @@ fn leaves_tags(rt: HostRuntime) -> Result<(), Fail> {
 #[test]
 fn finds_first_parents_between_commits(rt: HostRuntime) -> Result<(), Fail> {
     assert!(rt; asks_so(rt.alloc())?);
+    Ok(())
+}
+
+#[test]
+fn peels_each_tag_of_long_chains(rt: HostRuntime) -> Result<(), Fail> {
+    assert!(rt; peels_so(rt.alloc())?);
     Ok(())
 }
 

@@ -8,7 +8,7 @@ use Rattle.git_model.specs.RefStore.{RefStore}
 use Rattle.content_pool.specs.Pool.{Cells}
 use Rattle.tenant_tables.specs.Objects.{objects}
 use Rattle.tenant_tables.specs.View.{View}
-use Rattle.stream_parts.specs.Faults.{and_then}
+use Rattle.git_model.specs.Results.{and_then}
 use Rattle.stream_parts.specs.Marks.{Marks, room_for, with_mark}
 use Rattle.stream_commands.specs.Workspace.{Workspace, Effect}
 use Rattle.stream_parts.specs.Stored.{IsStored}

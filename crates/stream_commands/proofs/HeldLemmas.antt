@@ -22,6 +22,7 @@ use Rattle.stream_parts.specs.OpenCommand.{OpenCommand, Changes, Inline, command
 use Rattle.stream_parts.specs.Storing.{stored_or, with_content}
 use Rattle.stream_commands.specs.Faults.{changed_or}
 use Rattle.stream_commands.specs.State.{StreamState, state_with}
+use Rattle.revisions.specs.declared.tag_ends.ChainCache.{ChainCache}
 use Rattle.stream_commands.specs.Held.{ChainStands, HoldsFiles, HoldsOpen, KeepsBranchFiles}
 use Rattle.stream_commands.proofs.ChainLemmas.{chain_with}
 
@@ -65,7 +66,7 @@ module _ (digest : List ℕ → List ℕ) (content : Content) (os more : List Ob
       ap (λ (c : OpenCommit). Inline c file) (commit_same held stands)
   command_same _ stands = refl
 
-  chain_grown : (chain : List (List ℕ)) → ChainStands os chain → ChainStands more chain
+  chain_grown : (chain : ChainCache) → ChainStands os chain → ChainStands more chain
   chain_grown chain stands =
       subst (λ (l : List Object). ChainStands l chain)
       (stored_is (name_by digest content) content os more

@@ -7,7 +7,8 @@ use Rattle.stream_grammar.specs.Names.{CommitIsh, Marked, Expression}
 use Rattle.stream_parts.specs.declared.branches.Tip.{Tip}
 use Rattle.stream_parts.specs.declared.fault.Fault.{Fault}
 use Rattle.stream_parts.specs.declared.fault.Fault.TheVariants as fault
-use Rattle.stream_parts.specs.Faults.{and_then, or_fault, resolved_or}
+use Rattle.git_model.specs.Results.{and_then, or_fault}
+use Rattle.stream_parts.specs.Faults.{resolved_or}
 use Rattle.stream_commands.specs.Workspace.{Workspace}
 use Rattle.stream_parts.specs.Marks.{marked_name}
 use Rattle.stream_parts.specs.Branches.{ref_meant, tip_of, commit_at}

@@ -1,5 +1,5 @@
 -- What a session holds of its commits: the files of the open one and of the last ones that ended, and
--- the commits of a walk along first parents.
+-- what is kept of walks along first parents and along tags.
 use Rattle.std.specs.Prelude.{ℕ, List}
 use Rattle.git_model.specs.Repository.{Object}
 use Rattle.git_model.specs.GoodRepository.{AreObjects}
@@ -8,7 +8,8 @@ use Rattle.tenant_tables.specs.Objects.{objects}
 use Rattle.tenant_tables.specs.View.{View}
 use Rattle.kept_files.specs.KeptCommits.{AreBranches}
 use Rattle.open_commits.specs.OpenCommit.{HeldCommit, Stands}
-use Rattle.revisions.specs.FirstParents.{IsFirstParentChain}
+use Rattle.revisions.specs.declared.tag_ends.ChainCache.{ChainCache}
+use Rattle.revisions.specs.TagEnds.{AreChains}
 use Rattle.stream_parts.specs.OpenCommand.{OpenCommand, Changes, Inline}
 use Rattle.stream_commands.specs.State.{StreamState}
 
@@ -18,10 +19,10 @@ HoldsOpen os (Changes commit) = Stands os commit
 HoldsOpen os (Inline commit file) = Stands os commit
 HoldsOpen os _ = Unit {0}
 
--- Among good objects a chain of commits is one of first parents.
-abbrev pub ChainStands : List Object → List (List ℕ) → Type 0
-ChainStands os chain = (digest : List ℕ → List ℕ) → AreObjects digest os
-    → IsFirstParentChain os chain
+-- Among good objects a chain of commits is one of first parents, and tags lead to what is kept as
+-- their ends.
+abbrev pub ChainStands : List Object → ChainCache → Type 0
+ChainStands os chain = (digest : List ℕ → List ℕ) → AreObjects digest os → AreChains os chain
 
 -- All files are branches among the objects: each tree that they name is one of them. The chain stands
 -- among them too.

@@ -4,7 +4,7 @@ use Rattle.open_commits.specs.OpenCommit.{OpenCommit}
 use Rattle.stream_parts.specs.declared.fault.Fault.{Fault}
 use Rattle.stream_parts.specs.declared.headers.CommitHeader.{CommitHeader}
 use Rattle.stream_parts.specs.declared.headers.TagHeader.{TagHeader}
-use Rattle.stream_parts.specs.Faults.{and_then}
+use Rattle.git_model.specs.Results.{and_then}
 use Rattle.stream_parts.specs.OpenCommand.{Commit, Tag, Changes, changes_in, commit_header_in, tag_header_in}
 use Rattle.stream_commands.specs.Workspace.{Workspace, Effect, quiet, with_command}
 

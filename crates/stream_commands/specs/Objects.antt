@@ -4,7 +4,7 @@ use Rattle.git_model.specs.declared.kind.Kind.TheVariants as kind
 use Rattle.git_model.specs.Content.{Content, content_from, name_by}
 use Rattle.stream_grammar.specs.Acts.{ObjectCommand, Blob, BeginTag, TagTarget, Tagger, Tag}
 use Rattle.stream_parts.specs.declared.fault.Fault.{Fault}
-use Rattle.stream_parts.specs.Faults.{and_then}
+use Rattle.git_model.specs.Results.{and_then}
 use Rattle.stream_parts.specs.Headers.{new_tag_header}
 use Rattle.stream_parts.specs.Marks.{room_for, with_mark}
 use Rattle.stream_parts.specs.OpenCommand as open_command

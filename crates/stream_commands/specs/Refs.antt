@@ -7,7 +7,7 @@ use Rattle.stream_grammar.specs.Names.{CommitIsh, Marked, Expression}
 use Rattle.stream_parts.specs.declared.branches.Tip.{Tip}
 use Rattle.stream_parts.specs.declared.branches.Tip.TheVariants.{Unborn, Deleted, At}
 use Rattle.stream_parts.specs.declared.fault.Fault.{Fault}
-use Rattle.stream_parts.specs.Faults.{and_then}
+use Rattle.git_model.specs.Results.{and_then}
 use Rattle.stream_parts.specs.OpenCommand as open_command
 use Rattle.stream_parts.specs.OpenCommand.{reset_in}
 use Rattle.stream_commands.specs.Workspace.{Workspace, Effect, quiet}

@@ -11,7 +11,7 @@ use Rattle.stream_grammar.specs.Acts.{ReplyCommand, GetMark, CatBlob, Ls, LsInCo
 use Rattle.open_commits.specs.OpenCommit.{OpenCommit}
 use Rattle.open_commits.specs.Showing.{entry_shown as commit_entry_shown}
 use Rattle.stream_parts.specs.declared.fault.Fault.{Fault}
-use Rattle.stream_parts.specs.Faults.{and_then}
+use Rattle.git_model.specs.Results.{and_then}
 use Rattle.stream_parts.specs.Marks.{marked_name, referred_name}
 use Rattle.stream_parts.specs.OpenCommand.{changes_in}
 use Rattle.stream_parts.specs.Printing.{shown_object}

@@ -12,6 +12,7 @@ use Rattle.stream_commands.specs.declared.open_command.OpenCommand.TheVariants a
 use Rattle.stream_commands.specs.declared.state.StreamState.{StreamState as LentStreamState}
 use Rattle.kept_files.specs.declared.kept_files.KeptCommit.{KeptCommit}
 use Rattle.open_commits.specs.OpenCommit.{HeldCommit, commit_held, commit_in}
+use Rattle.revisions.specs.declared.tag_ends.ChainCache.{ChainCache}
 use Rattle.stream_parts.specs.Marks.{Marks}
 use Rattle.stream_parts.specs.Branches.{Branches}
 use Rattle.stream_parts.specs.OpenCommand.{OpenCommand, Nothing, Commit, Tag, Reset, Changes, Inline}
@@ -19,12 +20,12 @@ use Rattle.stream_parts.specs.StreamOf.{StreamOf, new_stream, stream_with}
 use Rattle.stream_commands.specs.Workspace.{Workspace, Effect}
 
 -- What a stream has of its own apart from its objects. The files of the open commit are held as a
--- branch, and so are the files of the last commits that ended. The chain has
--- commits of a walk along first parents.
+-- branch, and so are the files of the last commits that ended. The chain has what is kept of walks
+-- along first parents and along tags.
 pub record StreamState : Type 0 where
   pub stream : StreamOf HeldCommit
   pub kept : List KeptCommit
-  pub chain : List (List ℕ)
+  pub chain : ChainCache
 
 -- The open command, apart from where it is in memory.
 abbrev pub command_shown : LentCommand → OpenCommand HeldCommit
@@ -52,7 +53,7 @@ state_shown state = record { stream = stream_shown state; kept = state.kept; cha
 
 -- The state before the first item.
 abbrev pub empty_state : StreamState
-empty_state = record { stream = new_stream; kept = []; chain = [] }
+empty_state = record { stream = new_stream; kept = []; chain = record { first_parents = []; tags = [] } }
 
 -- The same state with this command open.
 abbrev pub state_with : StreamState → OpenCommand HeldCommit → StreamState

@@ -6,7 +6,7 @@ use Rattle.git_model.specs.Content.{Content, name_by}
 use Rattle.git_model.specs.References.{kind_named}
 use Rattle.stream_parts.specs.declared.fault.Fault.{Fault}
 use Rattle.stream_parts.specs.declared.headers.TagHeader.{TagHeader}
-use Rattle.stream_parts.specs.Faults.{and_then}
+use Rattle.git_model.specs.Results.{and_then}
 use Rattle.stream_commands.specs.Workspace.{Workspace, Effect, quiet}
 use Rattle.stream_parts.specs.Marks.{room_for, with_mark}
 use Rattle.stream_commands.specs.CommitIshes.{named_in}

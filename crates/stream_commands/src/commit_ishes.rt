@@ -21,7 +21,7 @@ use content_pool::Pool;
 use git_objects::{Kind, Name, Naming};
 use stream_grammar::CommitIsh;
 use stream_parts::branches::meant;
-use stream_parts::commit_ishes::{commit_at, peel_to, resolve_words};
+use stream_parts::commit_ishes::{commit_at, peel_with_chain, resolve_words};
 use stream_parts::fault::Fault;
 use stream_parts::marks;
 use tenant_refs::{RefName, Refs};
@@ -102,7 +102,7 @@ pub fn commit_named<N: Naming>(
     ensures chain { ChainStands (objects pool.now table.now.entries) state.new.chain }
 {
     let id = named(pool, table, refs, state, commit)?;
-    peel_to(state.alloc, pool, table, Kind::Commit, id)
+    peel_with_chain(state.alloc, pool, table, &mut state.chain, Kind::Commit, id)
 }
 
 // Whether a commit-ish is the branch itself, perhaps as `HEAD`.

@@ -10,7 +10,7 @@ use crate::open_command::OpenCommand;
 use git_objects::Name;
 use kept_files::KeptFiles;
 use open_commits::OpenCommit;
-use revisions::FirstParentCache;
+use revisions::ChainCache;
 use std::alloc::Global;
 use stream_marks::Marks;
 use stream_parts::branches::Branches;
@@ -31,8 +31,8 @@ pub struct StreamState {
     pub command: OpenCommand,
     /// The files of the last commits that ended, for commits that start from them.
     pub kept: KeptFiles,
-    /// The commits of a walk along first parents, for the next one.
-    pub chain: FirstParentCache,
+    /// What is kept of walks along first parents and along tags, for the next ones.
+    pub chain: ChainCache,
     /// The ref that HEAD is to name, if the stream set one since the last checkpoint.
     pub head: Option<Head>,
     /// Whether refs are moved by force.
@@ -77,7 +77,7 @@ pub fn new_state(alloc: Global) -> StreamState
         tags: Vec::new(alloc),
         command: OpenCommand::Nothing,
         kept: KeptFiles::new(alloc),
-        chain: FirstParentCache::new(alloc),
+        chain: ChainCache::new(alloc),
         head: None,
         forces: false,
         needs_done: false,

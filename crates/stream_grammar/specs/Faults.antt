@@ -1,5 +1,6 @@
 -- The numbers of the faults, for replies and exit statuses; and how a fault is answered.
 use Rattle.std.specs.Prelude.{◌≡◌, ◌≢◌, ℕ, Result, Ok, Err}
+use Rattle.git_model.specs.Results.{GivesOr}
 use Rattle.stream_grammar.specs.declared.fault.Fault.{Fault}
 use Rattle.stream_grammar.specs.declared.fault.Fault.TheVariants as fault
 
@@ -26,5 +27,4 @@ code_of value = bad_value value
 
 -- The answer of a call, as contracts see it, is what reading gives. `Memory` may replace it.
 abbrev pub Gives : {X Y : Type 0} → (X → Y) → Result X Fault → Result Y Fault → Type 0
-Gives view (Ok value) reading = reading ≡ Ok (view value)
-Gives view (Err e) reading = e ≢ fault.Memory → reading ≡ Err e
+Gives view result reading = GivesOr fault.Memory view result reading

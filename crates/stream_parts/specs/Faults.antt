@@ -1,6 +1,7 @@
 -- Faults: the number of each, for replies and exit statuses; how the faults of the layers below are
 -- passed on; and what a refusal stops.
 use Rattle.std.specs.Prelude.{◌≡◌, ◌≢◌, ℕ, Option, None, Some, Result, Ok, Err}
+use Rattle.git_model.specs.Results.{GivesOr}
 use Rattle.stream_grammar.specs.declared.fault.Fault.{Fault as TextFault}
 use Rattle.stream_grammar.specs.Faults.{code_of as text_code}
 use Rattle.revisions.specs.declared.fault.Fault.{Fault as RevisionFault}
@@ -35,16 +36,6 @@ abbrev pub text_first : {A : Type 0} → Result A TextFault → Result A Fault
 text_first (Ok value) = Ok value
 text_first (Err e) = Err (fault.Text e)
 
--- The next step, unless the first one is refused.
-abbrev pub and_then : {A B : Type 0} → Result A Fault → (A → Result B Fault) → Result B Fault
-and_then (Ok value) next = next value
-and_then (Err e) next = Err e
-
--- The value that must be there, or else this fault.
-abbrev pub or_fault : {A : Type 0} → Fault → Option A → Result A Fault
-or_fault e None = Err e
-or_fault e (Some value) = Ok value
-
 -- The fault of an expression, as one of the stream.
 abbrev pub resolving_fault : RevisionFault → Fault
 resolving_fault revision_fault.Malformed = fault.Malformed
@@ -59,5 +50,4 @@ resolved_or (Err e) = Err (resolving_fault e)
 
 -- A call answers what is defined, or `Memory` in its place.
 abbrev pub Gives : {A : Type 0} → Result A Fault → Result A Fault → Type 0
-Gives (Ok value) defined = defined ≡ Ok value
-Gives (Err e) defined = e ≢ fault.Memory → defined ≡ Err e
+Gives result defined = GivesOr fault.Memory (λ value. value) result defined

@@ -12,7 +12,8 @@ use Rattle.revisions.specs.Resolution.{peeled}
 use Rattle.stream_grammar.specs.declared.data_ref.DataRef.{DataRef}
 use Rattle.stream_parts.specs.declared.fault.Fault.{Fault}
 use Rattle.stream_parts.specs.declared.fault.Fault.TheVariants as fault
-use Rattle.stream_parts.specs.Faults.{and_then, or_fault, resolved_or}
+use Rattle.git_model.specs.Results.{and_then, or_fault}
+use Rattle.stream_parts.specs.Faults.{resolved_or}
 use Rattle.stream_parts.specs.Marks.{Marks, referred_name}
 
 -- An entry is listed as git-ls-tree(1) lists it. If nothing is at the path, this is printed:

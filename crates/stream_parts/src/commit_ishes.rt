@@ -4,18 +4,19 @@ ghost use Rattle.std.specs.Prelude.{◌≡◌};
 ghost use Rattle.git_model.specs.GoodRepository.{AreObjects};
 ghost use Rattle.tenant_tables.specs.Objects.{objects};
 ghost use Rattle.tenant_tables.specs.IsBackedBy.{IsBackedBy};
-ghost use Rattle.revisions.specs.FirstParents.{IsFirstParentChain};
 ghost use Rattle.revisions.specs.Resolution.{peeled, resolved};
+ghost use Rattle.revisions.specs.TagEnds.{AreChains};
 ghost use Rattle.stream_parts.specs.declared.fault.Fault.TheVariants as fault;
 ghost use Rattle.revisions.specs.Faults.{Gives as Names};
-ghost use Rattle.stream_parts.specs.Faults.{or_fault, resolved_or, resolving_fault, Gives};
+ghost use Rattle.git_model.specs.Results.{or_fault};
+ghost use Rattle.stream_parts.specs.Faults.{resolved_or, resolving_fault, Gives};
 ghost use Rattle.stream_parts.specs.Branches.{commit_at};
 
 use crate::branches::Tip;
 use crate::fault::Fault;
 use content_pool::Pool;
 use git_objects::{Kind, Name, Naming};
-use revisions::{Expression, FirstParentCache, peel, resolve_expression};
+use revisions::{ChainCache, Expression, peel, peel_along, resolve_with_tags};
 use std::alloc::Global;
 use tenant_refs::Refs;
 use tenant_tables::{Objects, Sight, Table};
@@ -61,24 +62,44 @@ pub fn peel_to<N: Naming>(
     passed_on(peel(alloc, &objects, wanted, id))
 }
 
-// What an expression names. The chain keeps the commits of a walk along first parents.
+/// The same, with what earlier calls kept of their ways along tags. The next call can use the chain
+/// that this one leaves, also if objects were added in between.
+pub fn peel_with_chain<N: Naming>(
+    alloc: Global,
+    pool: &Pool<N>,
+    table: &Table,
+    chain: &mut ChainCache,
+    wanted: Kind,
+    id: Name,
+) -> Result<Name, Fault>
+    requires { IsBackedBy N.digest_of pool.now table.now.entries }
+    ensures found { let os = objects pool.now table.now.entries in AreObjects N.digest_of os
+        → AreChains os chain.old → Gives result (resolved_or (peeled os wanted id)) }
+    ensures chain { let os = objects pool.now table.now.entries in AreObjects N.digest_of os
+        → AreChains os chain.old → AreChains os chain.new }
+{
+    let objects = Objects::of(pool, table, Sight::All);
+    passed_on(peel_along(alloc, &objects, &mut chain.tags, wanted, id))
+}
+
+// What an expression names. The chain keeps what the way passed.
 fn resolve<N: Naming>(
     alloc: Global,
     pool: &Pool<N>,
     table: &Table,
     refs: &Refs,
-    chain: &mut FirstParentCache,
+    chain: &mut ChainCache,
     words: &[u8],
 ) -> Result<Name, revisions::Fault>
     requires { IsBackedBy N.digest_of pool.now table.now.entries }
     ensures found { let os = objects pool.now table.now.entries in AreObjects N.digest_of os
-        → IsFirstParentChain os chain.old → Names result (resolved os refs.now words.now) }
+        → AreChains os chain.old → Names result (resolved os refs.now words.now) }
     ensures chain { let os = objects pool.now table.now.entries in AreObjects N.digest_of os
-        → IsFirstParentChain os chain.old → IsFirstParentChain os chain.new }
+        → AreChains os chain.old → AreChains os chain.new }
 {
     let expression = Expression::read(alloc, words)?;
     let objects = Objects::of(pool, table, Sight::All);
-    resolve_expression(alloc, &objects, refs, chain, &expression)
+    resolve_with_tags(alloc, &objects, refs, chain, &expression)
 }
 
 /// What an expression names among all objects so far and the refs as last saved:
@@ -89,15 +110,15 @@ pub fn resolve_words<N: Naming>(
     pool: &Pool<N>,
     table: &Table,
     refs: &Refs,
-    chain: &mut FirstParentCache,
+    chain: &mut ChainCache,
     words: &[u8],
 ) -> Result<Name, Fault>
     requires { IsBackedBy N.digest_of pool.now table.now.entries }
     ensures found { let os = objects pool.now table.now.entries in AreObjects N.digest_of os
-        → IsFirstParentChain os chain.old
+        → AreChains os chain.old
         → Gives result (resolved_or (resolved os refs.now words.now)) }
     ensures chain { let os = objects pool.now table.now.entries in AreObjects N.digest_of os
-        → IsFirstParentChain os chain.old → IsFirstParentChain os chain.new }
+        → AreChains os chain.old → AreChains os chain.new }
 {
     passed_on(resolve(alloc, pool, table, refs, chain, words))
 }

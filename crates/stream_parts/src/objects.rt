@@ -13,7 +13,7 @@ ghost use Rattle.tenant_tables.specs.Lent.{Keeps};
 ghost use Rattle.stream_parts.specs.Stored.{Stores};
 ghost use Rattle.std.specs.Prelude.{◌≡◌, Ok};
 ghost use Rattle.hex.specs.Hex.{encode_lower};
-ghost use Rattle.stream_parts.specs.Faults.{and_then};
+ghost use Rattle.git_model.specs.Results.{and_then};
 ghost use Rattle.stream_parts.specs.Marks.{marked_name, referred_name};
 
 use crate::fault::Fault;

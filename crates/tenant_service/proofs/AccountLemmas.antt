@@ -18,7 +18,6 @@ use Rattle.tenant_tables.specs.IsBackedBy.{PreservesOthers, AreCounted}
 use Rattle.tenant_tables.proofs.HoldLemmas.{held-nil}
 use Rattle.tenant_tables.proofs.TableLemmas.{IsBackedBy-nil, PreservesOthers-refl, length-objects, other_stands, other_objects, objects-take}
 use Rattle.open_commits.specs.OpenCommit.{commit_in}
-use Rattle.revisions.specs.FirstParents.{IsFirstParentChain}
 use Rattle.stream_parts.specs.StreamOf.{stream_with}
 use Rattle.stream_commands.specs.State.{workspace_in}
 use Rattle.import_session.specs.Stream.{Runs, Refused}
@@ -31,7 +30,7 @@ use Rattle.tenant_stream.specs.Carrying.{HasAmpleHoldsLeft}
 use Rattle.tenant_service.specs.Headline.{stop_told}
 use Rattle.tenant_service.specs.TenantState.{TenantState, Idle, Busy, empty_repository, held_of}
 use Rattle.tenant_service.specs.HeldSteps.{step_held}
-use Rattle.tenant_service.specs.Tenants.{Tenants, Stands, HoldsIn, kept_tail, held_in, holding_in, holdings, all_held, Accounts}
+use Rattle.tenant_service.specs.Tenants.{Tenants, Stands, kept_tail, held_in, holding_in, holdings, all_held, Accounts}
 use Rattle.tenant_service.specs.OneStep.{Takes, Store, store, Serves, Calls}
 
 -- ---- tenants that a call did not touch
@@ -70,12 +69,10 @@ stands_beside digest p q old new leaves (e ∷ es) bound all = (
     entries = other_stands digest p q old new e.1.table.entries all.0.entries (counted_beside p e es old bound) leaves;
     settled = all.0.settled;
     opened = all.0.opened;
-    files = subst (λ (os : List Object). HoldsIn os e.1.phase)
-        (sym (other_objects p q old new e.1.table.entries (counted_beside p e es old bound) leaves)) all.0.files;
-    chain = subst (λ (os : List Object). IsFirstParentChain os e.1.chain)
-        (objects-take p e.1.table.committed e.1.table.entries
+    files = rw (other_objects p q old new e.1.table.entries (counted_beside p e es old bound) leaves) all.0.files;
+    chain = rw (← (objects-take p e.1.table.committed e.1.table.entries
         ∙ ap (take e.1.table.committed) (sym (other_objects p q old new e.1.table.entries (counted_beside p e es old bound) leaves))
-        ∙ sym (objects-take q e.1.table.committed e.1.table.entries)) all.0.chain;
+        ∙ sym (objects-take q e.1.table.committed e.1.table.entries))) all.0.chain;
   },
   stands_beside digest p q old new leaves es (bound_beside p e es old bound) all.1,
 )
@@ -219,7 +216,7 @@ pub stands-found : (digest : List ℕ → List ℕ) (p : Cells) (name : List ℕ
     → lookup (bytes_eq name) es ≡ Some old → Stands digest p old
 stands-found digest p name es old h got =
     let f = found name es old old got in
-    let all = subst (λ (xs : Tenants). AllByRecursion (λ e. Stands digest p e.1) xs) f.is h.stands in
+    let all = rw f.is at h.stands in
     (all_parts _ f.front ((name, old) ∷ f.back) all).1.0
 
 -- One tenant has something else, and all others have what they had.
@@ -240,7 +237,7 @@ exchanged digest name p q es old new h got stands leaves =
     let c = changed digest p q f.front f.back name old new accounts stands leaves in
     let front_apart : lookup (bytes_eq name) (holdings p f.front) ≡ None = lookup-holdings p name f.front ∙ ap (option_map (holding_in p)) f.apart in
     record {
-      accounts = subst (λ (xs : Tenants). Accounts digest q xs) (sym f.set) c.accounts;
+      accounts = rw f.set c.accounts;
       here =
           ap (λ o. unwrap_or o (Idle empty_repository))
           (ap (λ (xs : Tenants). lookup (bytes_eq name) (holdings q xs)) f.set ∙ ap (lookup (bytes_eq name)) c.shown
@@ -265,9 +262,7 @@ serves-found digest name call p q es old new answer out out' h got stands leaves
     ap (λ o. unwrap_or o (Idle empty_repository)) (lookup-holdings p name es ∙ ap (option_map (holding_in p)) got) in
     record {
       accounts = x.accounts;
-      own =
-          subst (λ (x : TenantState). Takes (step_held digest call (stop_told answer) x) answer out out' (held_of name (holdings q (set_value (bytes_eq name) es new)))) (sym before)
-          (subst (λ (x : TenantState). Takes (step_held digest call (stop_told answer) (holding_in p old)) answer out out' x) (sym x.here) takes);
+      own = rw (before, x.here) takes;
       others = x.others;
     }
 
@@ -297,11 +292,11 @@ pub serves-missing : (digest : List ℕ → List ℕ) (name : List ℕ) (call : 
     ≡ step_result answer [] (Idle empty_repository)
     → Serves digest name call (store p es) answer out out (store p new)
 serves-missing digest name call p es new answer out h none same is =
-    subst (λ (xs : Tenants). Serves digest name call (store p es) answer out out (store p xs)) (sym same)
+    rw same
     (record {
       accounts = h;
       own =
-          subst (λ (x : TenantState). Takes (step_held digest call (stop_told answer) x) answer out out x) (sym (held-missing p name es none))
+          rw (held-missing p name es none)
           (record {
             answered = ap (λ (t : StepResult TenantState). t.answer) is;
             printed = sym (append-nil out) ∙ ap (λ (t : StepResult TenantState). out ++ t.reply) (sym is);
@@ -317,7 +312,7 @@ pub serves-same : (digest : List ℕ → List ℕ) (name : List ℕ) (call : Cal
     → Serves digest name call (store p es) answer out out' (store p es)
 serves-same digest name call p es held answer out out' h is takes = record {
   accounts = h;
-  own = subst (λ (x : TenantState). Takes (step_held digest call (stop_told answer) x) answer out out' x) (sym is) takes;
+  own = rw is takes;
   others = λ other apart. refl;
 }
 
@@ -370,14 +365,13 @@ pub serves-new : (digest : List ℕ → List ℕ) (name : List ℕ) (call : Call
     → Serves digest name call (store p es) answer out out' (store p new)
 serves-new digest name call p es new t answer out out' h named none same empty stands takes =
     let x = added digest name p p es t h named none stands
-    (subst (λ (entries : Entries). PreservesOthers p [] p entries) (sym empty) (PreservesOthers-refl p [])) in
-    subst (λ (xs : Tenants). Serves digest name call (store p es) answer out out' (store p xs)) (sym same)
+    (rw empty (PreservesOthers-refl p [])) in
+    rw same
     (record {
       accounts = x.accounts;
       own =
-          subst (λ (x : TenantState). Takes (step_held digest call (stop_told answer) x) answer out out' (held_of name (holdings p (es ++ (name, t) ∷ []))))
-          (sym (held-missing p name es none))
-          (subst (λ (x : TenantState). Takes (step_held digest call (stop_told answer) (Idle empty_repository)) answer out out' x) (sym x.here) takes);
+          rw (held-missing p name es none)
+          (rw x.here takes);
       others = x.others;
     })
 
@@ -456,7 +450,7 @@ put digest name p q es t h named nothing stands leaves = by (lookup (bytes_eq na
         let empty = nothing-in old.phase p old.table old.refs (sym before ∙ nothing) in
         subst (Exchanged digest p es name t q) (sym (insert-found name es old t got))
         (exchanged digest name p q es old t h got stands
-        (subst (λ (entries : Entries). PreservesOthers p entries q t.table.entries) (sym empty) leaves))
+        (rw empty leaves))
 
 -- a call under a good name
 pub calls-good : (digest : List ℕ → List ℕ) (given name : List ℕ) (call : Call) (before : Store)
@@ -465,7 +459,7 @@ pub calls-good : (digest : List ℕ → List ℕ) (given name : List ℕ) (call 
     → Serves digest name call before answer out out' after
     → Calls digest (is_tenant_name given) given call before answer out out' after
 calls-good digest given name call before answer out out' after good same serves =
-    rw good (subst (λ (n : List ℕ). Serves digest n call before answer out out' after) same serves)
+    rw good (rw (← same) serves)
 
 -- one that prints nothing does so whatever was printed before
 pub serves-silent : (digest : List ℕ → List ℕ) (name : List ℕ) (call : Call) (before : Store)
@@ -488,7 +482,7 @@ Accounts-nil digest p vacant = record { names = tt; stands = tt; counts = vacant
 
 -- a table that stays leaves all others
 pub leaves-same : (p : Cells) (old new : View) → new ≡ old → PreservesOthers p old.entries p new.entries
-leaves-same p old new same = subst (λ (t : View). PreservesOthers p old.entries p t.entries) (sym same) (PreservesOthers-refl p old.entries)
+leaves-same p old new same = rw same (PreservesOthers-refl p old.entries)
 
 -- a bad name has no tenant
 pub bad-missing : (name : List ℕ) (es : Tenants) → AllByRecursion (λ e. is_tenant_name e.0 ≡ true) es → is_tenant_name name ≡ false

@@ -1,5 +1,5 @@
 -- One tenant among all others is compacted, or all are as they were.
-use Rattle.std.proofs.Common.{◌≡◌, ◌≢◌, ℕ, Bool, true, false, cond, List, Option, None, Some, refl, sym, ap, subst, ◌∙◌, inl}
+use Rattle.std.proofs.Common.{◌≡◌, ◌≢◌, ℕ, Bool, true, false, cond, List, None, Some, refl, sym, ap, subst, ◌∙◌, inl}
 use Rattle.std.specs.Map.{lookup, set_value}
 use Rattle.std.specs.Str.{bytes_eq}
 use Rattle.git_model.specs.Repository.{Repository}
@@ -7,7 +7,6 @@ use Rattle.content_pool.specs.Pool.{Cells}
 use Rattle.tenant_refs.specs.TenantName.{is_tenant_name}
 use Rattle.service_steps.specs.declared.answer.Answer.{Answer}
 use Rattle.service_steps.specs.declared.answer.Answer.TheVariants as answer
-use Rattle.service_steps.specs.declared.fault.ServiceFault.{ServiceFault}
 use Rattle.service_steps.specs.declared.fault.ServiceFault.TheVariants as fault
 use Rattle.service_steps.specs.Faults.{code_of}
 use Rattle.tenant_service.specs.declared.tenant.Tenant.{Tenant}
@@ -44,8 +43,7 @@ module _ (digest : List ℕ → List ℕ) (given name : List ℕ) (p q : Cells) 
 
   answers : AnswersUnless (removal_refusal name (holdings p es)) told
   answers =
-      subst (λ (o : Option ServiceFault). AnswersUnless o told)
-      (sym (refusal-good name (holdings p es) (ap is_tenant_name is ∙ good) ∙ ap with_stream there))
+      rw (refusal-good name (holdings p es) (ap is_tenant_name is ∙ good) ∙ ap with_stream there)
       one.answered
 
   abbrev after : Tenants
@@ -70,7 +68,7 @@ module _ (digest : List ℕ → List ℕ) (given name : List ℕ) (p q : Cells) 
       let k = kept digest p q es h s.others in
       let same : after ≡ es =
       ap (set_value (bytes_eq name) es) s.same ∙ set-same name es old got in
-      subst (λ (xs : Tenants). Compacts digest name (store p es) told (store q xs)) (sym same)
+      rw same
       (record {
         accounts = k.accounts;
         answered = answers;
@@ -81,7 +79,7 @@ module _ (digest : List ℕ → List ℕ) (given name : List ℕ) (p q : Cells) 
 
   pub compacts-found : Compacts digest given (store p es) told (store q after)
   compacts-found =
-      subst (λ (n : List ℕ). Compacts digest n (store p es) told (store q after)) is
+      rw (← is)
       (by told refl)
     where
       by : (a : Answer) → told ≡ a → Compacts digest name (store p es) told (store q after)
@@ -96,10 +94,10 @@ pub compacts-missing : (digest : List ℕ → List ℕ) (given name : List ℕ) 
     → lookup (bytes_eq name) es ≡ None → new ≡ es
     → Compacts digest given (store p es) answer.Ok (store p new)
 compacts-missing digest given name p es new good is h none same =
-    subst (λ (xs : Tenants). Compacts digest given (store p es) answer.Ok (store p xs)) (sym same)
+    rw same
     (record {
       accounts = h;
-      answered = subst (λ (o : Option ServiceFault). AnswersUnless o answer.Ok) (sym free) (inl refl);
+      answered = rw free (inl refl);
       own = λ _. there
           ∙ ap (λ (held : TenantState). Idle (compacted (last_held held))) (sym there);
       others = λ other apart. refl;
@@ -118,8 +116,7 @@ pub compacts-bad : (digest : List ℕ → List ℕ) (given : List ℕ) (p : Cell
     → Compacts digest given (store p es) told (store p es)
 compacts-bad digest given p es told bad h says = record {
   accounts = h;
-  answered = subst (λ (o : Option ServiceFault). AnswersUnless o told)
-      (sym (refusal-bad given (holdings p es) bad)) says;
+  answered = rw (refusal-bad given (holdings p es) bad) says;
   own = λ ok. let no = sym says ∙ ok in cc;
   others = λ other apart. refl;
   refused = λ _. refl;
@@ -161,7 +158,6 @@ module _ (digest : List ℕ → List ℕ) (name : List ℕ) (before after : Tena
   pub left-whole : AreSound digest before → told ≡ answer.Ok
       → IsCompacted (last_held (held_of name before)) (last_held (held_of name after))
   left-whole sound ok =
-      subst (λ (held : TenantState). IsCompacted (last_held (held_of name before)) (last_held held))
-      (sym (own ok))
+      rw (own ok)
       (compacted-whole digest (last_held (held_of name before))
       (last-sound digest (held_of name before) (sound name)))

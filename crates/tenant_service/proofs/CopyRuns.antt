@@ -1,5 +1,5 @@
 -- A copy by places leaves what the steps of a copy leave: the run of these steps that it stands for.
-use Rattle.std.proofs.Common.{◌≡◌, ℕ, Bool, true, false, cond, List, [], ◌∷◌, map, codes, Option, None, Some, Result, refl, sym, ap, subst, ◌∙◌}
+use Rattle.std.proofs.Common.{◌≡◌, ℕ, Bool, true, false, cond, List, [], ◌∷◌, map, codes, Option, None, Some, refl, sym, ap, subst, ◌∙◌}
 use Rattle.std.specs.Prelude.{IfSome, IsNone}
 use Rattle.std.specs.Borrow.{Bor}
 use Rattle.std.specs.List.{AllByRecursion}
@@ -22,7 +22,6 @@ use Rattle.export_laws.specs.Ends.{IsImported, imported}
 use Rattle.export_laws.specs.Whole.{nothing_there}
 use Rattle.export_laws.proofs.EndImported.{export-imported}
 use Rattle.tenant_refs.specs.TenantName.{is_tenant_name}
-use Rattle.answers.specs.declared.fault.Fault.{Fault}
 use Rattle.service_steps.specs.declared.answer.Answer.{Answer}
 use Rattle.service_steps.specs.declared.answer.Answer.TheVariants as answer
 use Rattle.service_steps.specs.declared.step.Step.{Step}
@@ -133,8 +132,7 @@ module _ (digest : List ℕ → List ℕ) (text : List ℕ) (left : Repository) 
     left = λ state leads.
         let is = at-nothing digest state (subst (Represents digest state) nothing leads) in
         subst (Represents digest (left_alone digest state (steps_of to (import-run to text)))) (sym held)
-        (subst (λ (s : State). Represents digest s (Idle left))
-        (sym ((λ i. left_alone digest (is i) (steps-are i)) ∙ leaves)) refl);
+        (rw ((λ i. left_alone digest (is i) (steps-are i)) ∙ leaves) refl);
   }
 
 -- ---- the other tenants
@@ -161,8 +159,7 @@ takes-export : (digest : List ℕ → List ℕ) (held : TenantState)
     → Takes (step_held digest (Ask (codes "export")) None held) answer.Ok []
     (export_text (last_held held)) held
 takes-export digest held few =
-    subst (λ (r : Result (List ℕ) Fault). Takes (answered r held) answer.Ok []
-    (export_text (last_held held)) held) (sym (export-answer (last_held held) few))
+    rw (export-answer (last_held held) few)
     (record { answered = refl; printed = refl; leaves = refl })
 
 module _ (digest : List ℕ → List ℕ) (from : List ℕ) (before : TenantStates)
@@ -183,8 +180,7 @@ module _ (digest : List ℕ → List ℕ) (from : List ℕ) (before : TenantStat
           (bytes_eq-Decides from tenant).0 (both_true (is_tenant_name from) (bytes_eq from tenant) here).1 in
           own-call digest tenant (ask-step from) answer.Ok [] text (held_of tenant before)
           (held_of tenant before) here
-          (subst (λ (n : List ℕ). Takes (step_held digest (Ask (codes "export")) None (held_of n before))
-          answer.Ok [] text (held_of n before)) same (takes-export digest (held_of from before) few))
+          (rw (← same) (takes-export digest (held_of from before) few))
       by false apart =
           own-other digest tenant (ask-step from) (record { answer = answer.Ok; reply = text })
           (held_of tenant before) (held_of tenant before) apart refl
@@ -221,9 +217,7 @@ copied-run digest names before after from to sound good nothing can held others 
     import-of tenant true here =
         let i = as-imported digest names (last_held (held_of from before)) good-one can in
         let well = export-ends digest (last_held (held_of from before)) i in
-        subst (λ (n : List ℕ). IsIsolated digest n (held_of n before)
-        (import-run to (text digest from before can.few_refs)) (held_of n after))
-        (sym ((bytes_eq-Decides tenant to).0 here))
+        rw ((bytes_eq-Decides tenant to).0 here)
         (its-import digest (text digest from before can.few_refs)
         (copy_of (last_held (held_of from before))) to good (held_of to before) (held_of to after)
         nothing held (all-told digest (text digest from before can.few_refs) i.left well)
@@ -262,8 +256,8 @@ module _ (digest : List ℕ → List ℕ) (names : AnswersNames digest) (p q : C
       copied-run digest names (holdings p es) (holdings q new) from to sound may.good_to may.nothing
       h.can h.held h.others
   run-told (Some (answer.Memory items)) h =
-      subst (λ (n : ℕ). HasTaken digest (holdings p es) (holdings q new) (λ run. IsExport from to run (answer.Memory n))) (sym h.0)
-      (subst (λ (all : TenantStates). HasTaken digest (holdings p es) all (λ run. IsExport from to run (answer.Memory 0))) (sym h.1.same)
+      rw h.0
+      (rw h.1.same
       (no-memory digest (holdings p es) from to))
   run-told (Some (answer.Fault code)) h = absurd h
   run-told None h = tt
@@ -302,8 +296,7 @@ module _ (digest : List ℕ → List ℕ) (names : AnswersNames digest) (p q : C
       by : (b : Bool) → bytes_eq tenant to ≡ b
           → IsSoundTenantState digest (held_of tenant (holdings q new))
       by true here =
-          subst (λ (n : List ℕ). IsSoundTenantState digest (held_of n (holdings q new)))
-          (sym ((bytes_eq-Decides tenant to).0 here))
+          rw ((bytes_eq-Decides tenant to).0 here)
           (subst (IsSoundTenantState digest) (sym h.held)
           (copy-sound digest names (last_held (held_of from (holdings p es)))
           (last-sound digest (held_of from (holdings p es)) (sound from)) h.can))

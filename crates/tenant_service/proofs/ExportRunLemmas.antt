@@ -124,9 +124,8 @@ module _ (digest : List ℕ → List ℕ) (tenant : List ℕ) (good : is_tenant_
         cc both,
         record {
           told = cc both;
-          left = subst (λ (s : State). Represents digest s after)
-              (ap (left_alone digest state) first-steps
-              ∙ left-next digest state call stop (steps_of tenant run)) g.left;
+          left = rw (← (ap (left_alone digest state) first-steps
+              ∙ left-next digest state call stop (steps_of tenant run))) g.left;
         },
       )
 
@@ -186,9 +185,8 @@ after-query digest tenant query taken is state run after g =
         (steps_of tenant run) = cc both in
         record {
           told = rest ∙ ap (λ (s : State). told_alone digest s (steps_of tenant run)) same;
-          left = subst (λ (s : State). Represents digest s after)
-              (left-next digest state (call_of taken.0) stop (steps_of tenant run)
-              ∙ ap (λ (s : State). left_alone digest s (steps_of tenant run)) same) left;
+          left = rw (← (left-next digest state (call_of taken.0) stop (steps_of tenant run)
+              ∙ ap (λ (s : State). left_alone digest s (steps_of tenant run)) same)) left;
         }
 
 -- ---- the import of an export, step by step
@@ -235,8 +233,7 @@ module _ (digest : List ℕ → List ℕ) (repository : Repository) (i : IsImpor
       by : (a : Answer) → ended.1.answer ≡ a → CopiesAs a repository after
       by answer.Ok eq =
           held-copy digest repository i.left after
-          (subst (λ (s : State). Represents digest s after)
-          (empty-left (run_alone digest End None before).state ∙ ap (λ (t : StepResult State). t.state) results)
+          (rw (← (empty-left (run_alone digest End None before).state ∙ ap (λ (t : StepResult State). t.state) results))
           (then answer.Ok eq refl).1.left) i.copy
       by (answer.Fault code) eq =
           absurd (not-told ended code (Closed i.left) (run_alone digest End None before) eq
@@ -248,7 +245,7 @@ module _ (digest : List ℕ → List ℕ) (repository : Repository) (i : IsImpor
   at-feed [] told h g = absurd h
   at-feed (fed ∷ []) told h g = absurd h
   at-feed (fed ∷ ended ∷ []) told h g =
-      subst (λ (a : Answer). CopiesAs a repository after) (sym h.2) (by fed.1.answer refl)
+      rw h.2 (by fed.1.answer refl)
     where
       text : List ℕ
       text = export_text repository
@@ -271,8 +268,7 @@ module _ (digest : List ℕ → List ℕ) (repository : Repository) (i : IsImpor
           → CopiesAs (first_refusal a ended.1.answer) repository after
       by answer.Ok eq =
           at-end ended h.1
-          (subst (λ (s : State). Goes digest to s (ended ∷ []) after)
-          (ap (λ (t : StepResult State). t.state) results) (then answer.Ok eq refl).1)
+          (rw (← (ap (λ (t : StepResult State). t.state) results)) (then answer.Ok eq refl).1)
       by (answer.Fault code) eq =
           absurd (not-told fed code (Streaming empty_repository text)
           (run_alone digest (Feed text) None before) eq (then (answer.Fault code) eq refl).0 results)
@@ -300,7 +296,7 @@ module _ (digest : List ℕ → List ℕ) (repository : Repository) (i : IsImpor
           (run_alone digest Open None (Closed empty_repository)) eq
           (then (answer.Fault code) eq refl).0 refl)
       by (answer.Memory items) eq on =
-          subst (λ (a : Answer). CopiesAs a repository after) (sym on.1) tt
+          rw on.1 tt
 
 -- ---- a copy that was not refused before its steps
 
@@ -380,13 +376,12 @@ module _ (digest : List ℕ → List ℕ) (before after : TenantStates) (from to
           → CopiesAs told repository (held_of to after)
       by answer.Ok eq on =
           at-open digest repository i to may.good_to (held_of to after) run told
-          (subst (λ (t : List ℕ). IsImport to t run told)
-          (ap (λ (x : Response). x.reply) (then answer.Ok eq refl)) on) rest
+          (rw (← (ap (λ (x : Response). x.reply) (then answer.Ok eq refl))) on) rest
       by (answer.Fault code) eq on =
           (let e : answer.Fault code ≡ answer.Ok =
           sym eq ∙ ap (λ (x : Response). x.answer) (then (answer.Fault code) eq refl) in cc e)
       by (answer.Memory items) eq on =
-          subst (λ (a : Answer). CopiesAs a repository (held_of to after)) (sym on.1) tt
+          rw on.1 tt
 
 -- The steps of a copy that is not refused before them are answered Ok, or run out of memory; and
 -- after Ok a copy of the first tenant's repository at its last checkpoint is held of the second.

@@ -34,7 +34,7 @@ use Rattle.stream_grammar.specs.Commands.{done_by}
 use Rattle.open_commits.specs.declared.fault.Fault.{Fault as CommitFault}
 use Rattle.open_commits.specs.Changes.{all_deleted, blob_put, contents_put, deleted, entry_of, file_put}
 use Rattle.open_commits.specs.Ends.{closed, commit_content}
-use Rattle.open_commits.specs.Faults.{and_then as commit_then}
+use Rattle.git_model.specs.Results.{and_then}
 use Rattle.open_commits.specs.OpenCommit.{OpenCommit, begun}
 use Rattle.open_commits.specs.Showing.{entry_shown, file_or_trees, found_shown}
 use Rattle.open_commits.specs.Storing.{stored, stored_or as commit_stored_or, trees_or, trees_stored}
@@ -127,13 +127,13 @@ files_more digest files os = by (trees_fault digest (nested_trees digest files) 
 
 after_good : {A B : Type 0} (P : A → Type 0) (Q : B → Type 0) (r : Result A CommitFault)
     (next : A → Result B CommitFault) → IfOk r P → ((value : A) → P value → IfOk (next value) Q)
-    → IfOk (commit_then r next) Q
+    → IfOk (and_then r next) Q
 after_good P Q (Ok value) next good later = later value good
 after_good P Q (Err e) next good later = tt
 
 after_any : {A B : Type 0} (Q : B → Type 0) (r : Result A CommitFault)
     (next : A → Result B CommitFault) → ((value : A) → IfOk (next value) Q)
-    → IfOk (commit_then r next) Q
+    → IfOk (and_then r next) Q
 after_any Q (Ok value) next later = later value
 after_any Q (Err e) next later = tt
 

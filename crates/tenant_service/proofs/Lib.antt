@@ -7,6 +7,7 @@ mod SoundLemmas
 pub mod KeptLemmas
 mod GrowingLemmas
 mod OpenedLemmas
+mod FedLemmas
 mod RestartLemmas
 mod RemovalLemmas
 mod CompactObjects

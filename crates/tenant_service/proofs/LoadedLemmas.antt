@@ -25,8 +25,7 @@ use Rattle.pool_file.specs.declared.tenant.Tenant.{Tenant as Loaded}
 use Rattle.tenant_service.specs.declared.tenant.Tenant.{Tenant}
 use Rattle.tenant_service.specs.Alone.{Closed}
 use Rattle.tenant_service.specs.Entries.{entry_of, AreAll}
-use Rattle.tenant_service.specs.TenantState.{TenantState, Idle, Represents, empty_repository}
-use Rattle.tenant_service.specs.Soundness.{IsSoundTenantState}
+use Rattle.tenant_service.specs.TenantState.{TenantState, Idle, empty_repository}
 use Rattle.tenant_service.specs.Saved.{repository_of, HasJust, LoadsAs, LoadsText, LoadsEach}
 use Rattle.tenant_service.specs.Tenants.{Tenants, Stands, Accounts, IsService, holding_in, holdings, all_held}
 
@@ -120,11 +119,10 @@ module _ (digest : List ℕ → List ℕ) (p : Cells) (ts : List Loaded)
     led = λ tenant.
         let r : Repository = repository_of tenant (loaded_repositories p ts) in (
           Closed r,
-          subst (λ (held : TenantState). Represents digest (Closed r) held)
-              (sym (has-loaded p ts tenant)) refl,
+          rw (has-loaded p ts tenant) refl,
         );
     sound = λ tenant.
-        subst (λ (held : TenantState). IsSoundTenantState digest held) (sym (has-loaded p ts tenant))
+        rw (has-loaded p ts tenant)
         (sound-or digest p tenant ts all.each);
   }
 
@@ -194,8 +192,7 @@ pub new-name : (taken : Tenants) (t : Loaded) (rest all : List Loaded)
     → lookup (bytes_eq t.name) taken ≡ None
 new-name taken t rest all are distinct =
     absent-front taken (map entry_of rest) (entry_of t)
-    (subst (λ (names : List (List ℕ)). IsDistinct bytes_eq names)
-    (sym (ap keys_of are ∙ keys-loaded all)) distinct)
+    (rw (ap keys_of are ∙ keys-loaded all) distinct)
 
 pub all-next : (taken more : Tenants) (t : Loaded) (rest all : List Loaded)
     → AreAll taken (t ∷ rest) all → more ≡ taken ++ entry_of t ∷ [] → AreAll more rest all
@@ -224,5 +221,5 @@ pub loads-each : (digest : List ℕ → List ℕ) (known : Option (List ℕ)) (p
     → LoadsEach digest known (Ok (holdings p (map entry_of ts)))
 loads-each digest None p ts h = tt
 loads-each digest (Some bytes) p ts h = λ all text.
-    subst (λ (named : List Named). HasJust named (holdings p (map entry_of ts))) (h all text)
+    rw (← (h all text))
     (has-loaded p ts)

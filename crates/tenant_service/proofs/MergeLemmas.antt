@@ -1,6 +1,6 @@
 -- The tenants of another service, which come one after the other, and are taken out again if one of
 -- them cannot come.
-use Rattle.std.proofs.Common.{◌≡◌, ℕ, zero, suc, ◌+◌, ◌<◌, ◌≤◌, ◌||◌, Bool, true, false, cond, List, [], ◌∷◌, ◌++◌, map, length, take, filter, get_or, Option, None, Some, is_some, refl, sym, ap, subst, ◌∙◌, inl, inr, arith, true≢false}
+use Rattle.std.proofs.Common.{◌≡◌, ℕ, zero, suc, ◌+◌, ◌<◌, ◌≤◌, ◌||◌, Bool, true, false, cond, List, [], ◌∷◌, ◌++◌, map, length, take, filter, get_or, Option, None, Some, is_some, refl, sym, ap, ◌∙◌, inl, inr, arith, true≢false}
 use Rattle.std.specs.Prelude.{◌⊎◌, min, not}
 use Rattle.std.specs.List.{AllByRecursion, IsDistinct}
 use Rattle.std.specs.Map.{keys_of, lookup}
@@ -30,7 +30,7 @@ use Rattle.service_steps.specs.Faults.{code_of}
 use Rattle.tenant_service.specs.declared.tenant.OpenStream.TheVariants as phase
 use Rattle.tenant_service.specs.declared.tenant.Tenant.{Tenant}
 use Rattle.tenant_service.specs.Across.{IsAcross}
-use Rattle.tenant_service.specs.Alone.{Closed, State}
+use Rattle.tenant_service.specs.Alone.{Closed}
 use Rattle.tenant_service.specs.ComingIn.{HasCome, IsReceived, held_with, held_without, names_lent}
 use Rattle.tenant_service.specs.Copying.{has_nothing, held_refusal}
 use Rattle.tenant_service.specs.Entries.{parts_lent, parts_of}
@@ -39,8 +39,7 @@ use Rattle.tenant_service.specs.Merging.{Merges, first_refused, merged}
 use Rattle.tenant_service.specs.OneStep.{store}
 use Rattle.tenant_service.specs.Removing.{all_but}
 use Rattle.tenant_service.specs.Saved.{last_named, repository_of, saved_of}
-use Rattle.tenant_service.specs.Soundness.{IsSoundTenantState}
-use Rattle.tenant_service.specs.TenantState.{Represents, TenantState, TenantStates, Idle, empty_repository, held_of}
+use Rattle.tenant_service.specs.TenantState.{TenantStates, Idle, empty_repository, held_of}
 use Rattle.tenant_service.specs.Tenants.{Accounts, AreLed, AreSound, Stands, Tenants, holding_in, holdings}
 use Rattle.tenant_service.proofs.AccountLemmas.{held-found, held-missing, put}
 use Rattle.tenant_service.proofs.BackLemmas.{loses-nothing}
@@ -184,8 +183,7 @@ pub few-lent : (from : Cells) (v : TenantView) (count : ℕ)
 few-lent from v count counted =
     let there = objects from v.table.now.entries in
     let many = length-objects from v.table.now.entries in
-    subst (λ (n : ℕ). n ≤ length v.table.now.entries)
-    (sym (counted ∙ length-take v.objects there ∙ ap (min v.objects) many))
+    rw (counted ∙ length-take v.objects there ∙ ap (min v.objects) many)
     (min-le_right v.objects (length v.table.now.entries))
 
 pub has-come : (digest : List ℕ → List ℕ) (from p q : Cells) (es between new : Tenants) (v : TenantView)
@@ -198,7 +196,7 @@ has-come digest from p q es between new v name t h named nothing r same called i
     let x = put digest v.name.now p q es t h named nothing r.stands r.others in
     let put-in : new ≡ insert_entry bytes_eq es v.name.now t =
     is ∙ (λ i. insert_entry bytes_eq (same i) (called i) t) in
-    subst (λ (xs : Tenants). HasCome digest (named_in from v) (store p es) (store q xs)) (sym put-in)
+    rw put-in
     (record { accounts = x.accounts; here = x.here ∙ r.held; others = x.others })
 
 -- ---- one tenant after the other comes
@@ -226,7 +224,7 @@ last-past t k (e ∷ ps) x apart =
 name-at : (P : List ℕ → Type 0) (xs : List TenantView) (i : ℕ) (v : TenantView)
     → AllByRecursion P (names_lent xs) → i < length xs → v ≡ get_or xs i v → P v.name.now
 name-at P [] i v all lt is = absurd (omega arith)
-name-at P (x ∷ xs) zero v all lt is = subst (λ (y : TenantView). P y.name.now) (sym is) all.0
+name-at P (x ∷ xs) zero v all lt is = rw is all.0
 name-at P (x ∷ xs) (suc i) v all lt is = name-at P xs i v all.1 (omega arith) is
 
 module _ (from : Cells) where
@@ -472,7 +470,7 @@ are-saved digest from es all lent shown stands is same saved =
 pub distinct-holdings : (p : Cells) (es : Tenants) → IsDistinct bytes_eq (keys_of es)
     → IsDistinct bytes_eq (keys_of (holdings p es))
 distinct-holdings p es distinct =
-    subst (λ (names : List (List ℕ)). IsDistinct bytes_eq names) (sym (keys-holdings p es)) distinct
+    rw (keys-holdings p es) distinct
 
 -- ---- what a merge answers
 
@@ -480,13 +478,13 @@ pub merge-refused : (o : Option ServiceFault) (refusal : ServiceFault) (others b
     (told : Answer) → o ≡ Some refusal → told ≡ answer.Fault (code_of refusal)
     → Merges o others before told before
 merge-refused o refusal others before told is says =
-    subst (λ (p : Option ServiceFault). Merges p others before told before) (sym is)
-    (subst (λ (a : Answer). Merges (Some refusal) others before a before) (sym says) (refl, refl))
+    rw is
+    (rw says (refl, refl))
 
 pub merge-made : (o : Option ServiceFault) (others before after : TenantStates) → o ≡ None
     → ((t : List ℕ) → held_of t after ≡ merged t others before) → Merges o others before answer.Ok after
 merge-made o others before after is held =
-    subst (λ (p : Option ServiceFault). Merges p others before answer.Ok after) (sym is) held
+    rw is held
 
 pub merge-stopped : (o : Option ServiceFault) (others before after : TenantStates)
     → ((t : List ℕ) → held_of t after ≡ held_of t before) → Merges o others before (answer.Memory 0) after
@@ -515,11 +513,10 @@ module _ (others before : TenantStates) where
       → AreLed digest after
   merge-led digest o told after h led t = elim (came o told after h t) [
     | inl same ↦
-        subst (λ (x : TenantState). (state : State) × Represents digest state x) (sym same) (led t)
+        rw same (led t)
     | inr own ↦ (
       Closed (last_held (held_of t others)),
-      subst (λ (x : TenantState). Represents digest (Closed (last_held (held_of t others))) x)
-          (sym own) refl,
+      rw own refl,
     )
   ]
 
@@ -527,8 +524,8 @@ module _ (others before : TenantStates) where
       (after : TenantStates) → Merges o others before told after → AreSound digest others
       → AreSound digest before → AreSound digest after
   merge-sound digest o told after h there sound t = elim (came o told after h t) [
-    | inl same ↦ subst (λ (x : TenantState). IsSoundTenantState digest x) (sym same) (sound t)
+    | inl same ↦ rw same (sound t)
     | inr own ↦
-        subst (λ (x : TenantState). IsSoundTenantState digest x) (sym own)
+        rw own
         (last-sound digest (held_of t others) (there t))
   ]

@@ -1,5 +1,5 @@
 -- What is held of a tenant goes on as its repository and its stream do.
-use Rattle.std.proofs.Common.{◌≡◌, ℕ, zero, suc, ◌+◌, Bool, true, false, cond, leb, List, [], ◌∷◌, ◌++◌, length, take, drop, Option, None, Some, Result, Ok, Err, refl, sym, ap, subst, ◌∙◌, arith, append_assoc}
+use Rattle.std.proofs.Common.{◌≡◌, ℕ, zero, suc, ◌+◌, Bool, true, false, cond, leb, List, [], ◌∷◌, ◌++◌, length, take, drop, Option, None, Some, Result, Ok, Err, refl, sym, ap, ◌∙◌, arith, append_assoc}
 use Rattle.std.proofs.lemmas.Bool.{le-leb, leb-true, leb-false, lt-leb}
 use Rattle.std.proofs.lemmas.List.{length-append}
 use Rattle.std.proofs.Math.Seq.{take-append-add, drop-append_seam}
@@ -16,11 +16,11 @@ use Rattle.tenant_stream.specs.Carrying.{outcome_after}
 use Rattle.answers.specs.declared.fault.Fault.{Fault as Refusal}
 use Rattle.answers.specs.Answers.{answer_to}
 use Rattle.service_steps.specs.declared.answer.Answer.TheVariants as answer
-use Rattle.tenant_service.specs.Alone.{Call, Open, Feed, End, Ask, Restart, State, Closed, Streaming, Dead, StepResult, step_result, out_of_memory, Stopped, stop_at, stop_after, stream_of, last_of, feed_stop, open_alone, feed_alone, added, fed_by, fed, fed_well, fed_until, ended, closed, last_alone, answered, asked, run_alone}
+use Rattle.tenant_service.specs.Alone.{Call, Open, Feed, End, Ask, Restart, State, Closed, Streaming, Dead, StepResult, step_result, Stopped, stop_at, stop_after, stream_of, last_of, feed_stop, open_alone, added, fed_by, fed, fed_well, fed_until, ended, closed, last_alone, answered, asked, run_alone}
 use Rattle.tenant_service.specs.Headline.{response_of}
 use Rattle.tenant_service.specs.TenantState.{TenantState, Idle, Busy, Represents}
 use Rattle.tenant_service.specs.HeldObjects.{last_held}
-use Rattle.tenant_service.specs.HeldSteps.{standing_answer, gone_on, held_until, open_held, feed_held, fed_held, step_held}
+use Rattle.tenant_service.specs.HeldSteps.{standing_answer, gone_on, held_until, open_held, fed_held, step_held}
 use Rattle.tenant_stream.proofs.StreamLemmas.{carried-done, carried-tail}
 
 -- ---- items after items
@@ -230,7 +230,7 @@ fed-goes : (digest : List ℕ → List ℕ) (repository : Repository) (all befor
     → stream_of digest repository all ≡ after_reply before later
     → Meets digest (fed_by repository all (added before (stream_of digest repository all).replies) (stream_of digest repository all).status) (gone_on repository later)
 fed-goes digest repository all before later is =
-    subst (λ (o : Outcome). Meets digest (fed_by repository all (added before o.replies) o.status) (gone_on repository later)) (sym is) (by later.status refl)
+    rw is (by later.status refl)
   where
     adds : drop (length before) (before ++ later.replies) ≡ later.replies
     adds = drop-append_seam before later.replies
@@ -268,11 +268,10 @@ fed-meets digest repository bytes piece (Some count) now kept h =
     by : (alone held : Option Stopped) → alone ≡ option_map (after_replies before) held
         → Meets digest (fed_until before count alone (fed_well digest repository bytes piece)) (held_until repository count held (gone_on repository (outcome_after digest now kept piece)))
     by alone None is =
-        subst (λ (o : Option Stopped). Meets digest (fed_until before count o (fed_well digest repository bytes piece)) (gone_on repository (outcome_after digest now kept piece))) (sym is)
+        rw is
         (fed-meets-well digest repository bytes piece now kept h)
     by alone (Some stopped) is =
-        subst (λ (o : Option Stopped). Meets digest (fed_until before count o (fed_well digest repository bytes piece))
-        (step_result (answer.Memory count) stopped.replies (Busy repository (Refused out_of_memory stopped.repository)))) (sym is)
+        rw is
         (record {
           told = ap (λ (rs : List ℕ). record { answer = answer.Memory count; reply = rs }) (drop-append_seam before stopped.replies);
           leads = refl;
@@ -313,25 +312,25 @@ asked-leads digest query (Some (suc count)) r state held h = answered-meets dige
 asked-meets : (digest : List ℕ → List ℕ) (query : List ℕ) (stop : Option ℕ) (state : State) (held : TenantState) → Represents digest state held
     → Meets digest (asked query stop (last_alone digest state) state) (asked query stop (last_held held) held)
 asked-meets digest query stop state held h =
-    subst (λ (r : Repository). Meets digest (asked query stop (last_alone digest state) state) (asked query stop r held)) (last-leads digest state held h)
+    rw (← (last-leads digest state held h))
     (asked-leads digest query stop (last_alone digest state) state held h)
 
 pub meets : (digest : List ℕ → List ℕ) (call : Call) (stop : Option ℕ) (state : State) (held : TenantState) → Represents digest state held
     → Meets digest (run_alone digest call stop state) (step_held digest call stop held)
-meets digest Open stop (Closed r) (Idle r') h = subst (λ (x : Repository). Meets digest (open_alone stop (Closed r)) (open_held stop (Idle x))) h (opened-leads digest stop r)
+meets digest Open stop (Closed r) (Idle r') h = rw (← h) (opened-leads digest stop r)
 meets digest Open stop (Streaming r bytes) (Busy opened (Runs now tail)) h = record { told = refl; leads = h }
 meets digest Open stop (Dead code r) (Busy opened status) h = record { told = refl; leads = h }
 meets digest (Feed piece) stop (Closed r) (Idle r') h = record { told = refl; leads = h }
 meets digest (Feed piece) stop (Streaming r bytes) (Busy opened (Runs now tail)) h =
-    subst (λ (x : Repository). Meets digest (feed_alone digest piece stop (Streaming r bytes)) (fed_held digest piece stop x now tail)) h.0
+    rw (← h.0)
     (fed-meets digest r bytes piece stop now tail h.1)
 meets digest (Feed piece) stop (Dead code r) (Busy opened status) h =
-    subst (λ (x : StreamStatus). Meets digest (feed_alone digest piece stop (Dead code r)) (feed_held digest piece stop (Busy opened x))) (sym h) (record { told = refl; leads = refl })
+    rw h (record { told = refl; leads = refl })
 meets digest End stop (Closed r) (Idle r') h = record { told = refl; leads = h }
 meets digest End stop (Streaming r bytes) (Busy opened (Runs now tail)) h =
-    subst (λ (x : StreamStatus). Meets digest (closed Closed (ended digest stop x)) (closed Idle (ended digest stop (Runs now tail)))) (sym h.1) (ended-leads digest (ended digest stop (Runs now tail)))
+    rw h.1 (ended-leads digest (ended digest stop (Runs now tail)))
 meets digest End stop (Dead code r) (Busy opened status) h =
-    subst (λ (x : StreamStatus). Meets digest (closed Closed (ended digest stop (Refused code r))) (closed Idle (ended digest stop x))) (sym h) (ended-leads digest (ended digest stop (Refused code r)))
+    rw h (ended-leads digest (ended digest stop (Refused code r)))
 meets digest (Ask query) stop state held h = asked-meets digest query stop state held h
 meets digest Restart stop state held h = record { told = refl; leads = last-leads digest state held h }
 meets digest Open stop (Closed r) (Busy opened status) h = elim h [ ]

@@ -44,10 +44,9 @@ module _ (digest : List ℕ → List ℕ) (name : List ℕ) (before after : Tena
       by : (b : Bool) → bytes_eq tenant name ≡ b → (state : _) × Represents digest state (held_of tenant after)
       by true here = (
         Closed repository,
-        subst (λ (h : TenantState). Represents digest (Closed repository) h)
-            (sym (ap (λ (n : List ℕ). held_of n after) ((bytes_eq-Decides tenant name).0 here) ∙ own)) refl,
+        rw (ap (λ (n : List ℕ). held_of n after) ((bytes_eq-Decides tenant name).0 here) ∙ own) refl,
       )
-      by false apart = subst (λ (h : TenantState). (state : _) × Represents digest state h) (sym (others tenant apart)) (led tenant)
+      by false apart = rw (others tenant apart) (led tenant)
 
   pub sound-left : (repository : Repository) → held_of name after ≡ Idle repository
       → IsSoundRepository digest repository → AreSound digest before → AreSound digest after
@@ -55,9 +54,8 @@ module _ (digest : List ℕ → List ℕ) (name : List ℕ) (before after : Tena
     where
       by : (b : Bool) → bytes_eq tenant name ≡ b → IsSoundTenantState digest (held_of tenant after)
       by true here =
-          subst (λ (h : TenantState). IsSoundTenantState digest h)
-          (sym (ap (λ (n : List ℕ). held_of n after) ((bytes_eq-Decides tenant name).0 here) ∙ own)) good
-      by false apart = subst (λ (h : TenantState). IsSoundTenantState digest h) (sym (others tenant apart)) (sound tenant)
+          rw (ap (λ (n : List ℕ). held_of n after) ((bytes_eq-Decides tenant name).0 here) ∙ own) good
+      by false apart = rw (others tenant apart) (sound tenant)
 
 -- ---- all but one
 
@@ -163,7 +161,7 @@ pub gone : (digest : List ℕ → List ℕ) (name : List ℕ) (p q : Cells) (es 
 gone digest name p q es new old h got is none leaves =
     let f = found name es old empty_tenant got in
     let c = changed digest p q f.front f.back name old empty_tenant
-    (subst (λ (xs : Tenants). Accounts digest p xs) f.is h)
+    (rw (← f.is) h)
     (record { entries = IsBackedBy-nil digest q; settled = refl; opened = tt; files = tt; chain = tt }) leaves in
     let rest : new ≡ f.front ++ f.back =
     is ∙ ap (remove_entry (bytes_eq name)) f.is ∙ remove-past name f.front f.back old f.apart in
@@ -174,7 +172,7 @@ gone digest name p q es new old h got is none leaves =
     λ r t. ap (all_but name) (map-append (λ (e : List ℕ × Tenant). (e.0, holding_in r e.1)) f.front ((name, t) ∷ f.back))
     ∙ all_but-past name (holdings r f.front) (holdings r f.back) (holding_in r t) in
     record {
-      accounts = subst (λ (xs : Tenants). Accounts digest q xs) (sym rest) (accounts-without digest q f.front f.back name c.accounts);
+      accounts = rw rest (accounts-without digest q f.front f.back name c.accounts);
       left =
           sym (all_but-absent name (holdings q new) absent)
           ∙ ap (λ (xs : Tenants). all_but name (holdings q xs)) rest
@@ -193,7 +191,7 @@ gone-missing digest name p es new h same none =
     let absent : lookup (bytes_eq name) (holdings p es) ≡ None =
     lookup-holdings p name es ∙ ap (option_map (holding_in p)) none in
     record {
-      accounts = subst (λ (xs : Tenants). Accounts digest p xs) (sym same) h;
+      accounts = rw same h;
       left = ap (holdings p) same ∙ sym (all_but-absent name (holdings p es) absent);
     }
 
@@ -223,7 +221,7 @@ shown-same : (digest : List ℕ → List ℕ) (name : List ℕ) (p q : Cells) (e
     → holdings q (set_value (bytes_eq name) es new) ≡ holdings p es
 shown-same digest name p q es old new h got stands leaves same =
     let f = found name es old new got in
-    let c = changed digest p q f.front f.back name old new (subst (λ (xs : Tenants). Accounts digest p xs) f.is h) stands leaves in
+    let c = changed digest p q f.front f.back name old new (rw (← f.is) h) stands leaves in
     ap (holdings q) f.set ∙ c.shown
     ∙ ap (λ (x : TenantState). holdings p f.front ++ (name, x) ∷ holdings p f.back) same
     ∙ sym (map-append (λ (e : List ℕ × Tenant). (e.0, holding_in p e.1)) f.front ((name, old) ∷ f.back))
@@ -242,7 +240,7 @@ pub abandons-found : (digest : List ℕ → List ℕ) (given name : List ℕ) (p
     → holding_in q new ≡ Idle (last_held (holding_in p old))
     → Abandons digest given (store p es) told (store q (set_value (bytes_eq name) es new))
 abandons-found digest given name p q es old new told good is h got stands leaves says own =
-    subst (λ (n : List ℕ). Abandons digest n (store p es) told (store q (set_value (bytes_eq name) es new))) is
+    rw (← is)
     (record {
       accounts = x.accounts;
       answered = says ∙ ap answer_unless (sym refusal);
@@ -267,7 +265,7 @@ pub abandons-missing : (digest : List ℕ → List ℕ) (given name : List ℕ) 
     → lookup (bytes_eq name) es ≡ None → new ≡ es → told ≡ answer.Fault (code_of fault.NoStream)
     → Abandons digest given (store p es) told (store p new)
 abandons-missing digest given name p es new told good is h none same says =
-    subst (λ (xs : Tenants). Abandons digest given (store p es) told (store p xs)) (sym same)
+    rw same
     (record {
       accounts = h;
       answered = says ∙ ap answer_unless (sym refusal);
@@ -299,7 +297,7 @@ pub removes-gone : (digest : List ℕ → List ℕ) (given name : List ℕ) (p q
     → is_tenant_name given ≡ true → name ≡ given → is_some (with_stream (held_of name (holdings p es))) ≡ false
     → Gone digest name p q es new → Removes digest given (store p es) answer.Ok (store q new)
 removes-gone digest given name p q es new good is idle g =
-    subst (λ (n : List ℕ). Removes digest n (store p es) answer.Ok (store q new)) is
+    rw (← is)
     (record {
       accounts = g.accounts;
       answered = ap answer_unless (sym free);

@@ -1,6 +1,5 @@
 -- Restarts: one tenant after the other.
 use Rattle.std.proofs.Common.{◌≡◌, ℕ, zero, suc, ◌+◌, List, [], ◌∷◌, ◌++◌, length, Some, slice_get, refl, sym, ap, subst, ◌∙◌, add-one}
-use Rattle.std.specs.List.{AllByRecursion}
 use Rattle.std.specs.Map.{values_of}
 use Rattle.std.proofs.lemmas.List.{map-append}
 use Rattle.indexmap.specs.Layout.{set_value_at}
@@ -46,7 +45,7 @@ pub stands-placed : (digest : List ℕ → List ℕ) (p : Cells) (es : Tenants) 
     → slice_get (values_of es) i ≡ Some old → Stands digest p old
 stands-placed digest p es i old h got =
     let f = placed es i old old got in
-    let all = subst (λ (xs : Tenants). AllByRecursion (λ e. Stands digest p e.1) xs) f.is h.stands in
+    let all = rw f.is at h.stands in
     (all_parts _ f.front ((f.name, old) ∷ f.back) all).1.0
 
 at_length : (front back : TenantStates) (name : List ℕ) (h : TenantState)
@@ -70,7 +69,7 @@ restarted-placed digest p q es i old new h got stands leaves own =
     let shown : holdings p es ≡ holdings p f.front ++ (f.name, holding_in p old) ∷ holdings p f.back =
     ap (holdings p) f.is ∙ map-append (λ (e : List ℕ × Tenant). (e.0, holding_in p e.1)) f.front ((f.name, old) ∷ f.back) in
     record {
-      accounts = subst (λ (xs : Tenants). Accounts digest q xs) (sym f.set) c.accounts;
+      accounts = rw f.set c.accounts;
       closed =
           ap (holdings q) f.set ∙ c.shown
           ∙ ap (λ (x : TenantState). holdings p f.front ++ (f.name, x) ∷ holdings p f.back) own

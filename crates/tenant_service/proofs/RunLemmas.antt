@@ -1,5 +1,5 @@
 -- Runs, and what one tenant meets of them.
-use Rattle.std.proofs.Common.{◌≡◌, ℕ, suc, ◌+◌, append-nil, Bool, true, false, ◌&&◌, cond, ◌<◌, ◌≤◌, List, [], ◌∷◌, ◌++◌, length, map, drop, get_or, Option, Some, refl, sym, ap, subst, ◌∙◌, arith, append_assoc, length-drop}
+use Rattle.std.proofs.Common.{◌≡◌, ℕ, suc, ◌+◌, append-nil, Bool, true, false, ◌&&◌, cond, ◌<◌, ◌≤◌, List, [], ◌∷◌, ◌++◌, length, map, drop, get_or, Option, Some, refl, sym, ap, ◌∙◌, arith, append_assoc, length-drop}
 use Rattle.std.specs.Option.{unwrap_or}
 use Rattle.std.specs.Map.{lookup}
 use Rattle.std.specs.Str.{bytes_eq}
@@ -38,9 +38,8 @@ own-call digest tenant s answer out out' before after concerned takes = record {
       ∙ ap (λ (b : Bool). told_alone digest state (map (λ (x : Step × Response). (call_of x.0, stop_told x.1.answer)) (cond b ((s, response_in answer out out') ∷ []) [])))
       (sym concerned);
   left = λ state leads.
-      subst (λ (b : Bool). Represents digest (left_alone digest state (map (λ (x : Step × Response). (call_of x.0, stop_told x.1.answer)) (cond b ((s, response_in answer out out') ∷ []) []))) after)
-      (sym concerned)
-      (subst (λ (h : TenantState). Represents digest (run_alone digest (call_of s) (stop_told answer) state).state h) takes.leaves
+      rw concerned
+      (rw (← takes.leaves)
       (meets digest (call_of s) (stop_told answer) state before leads).leads);
 }
   where
@@ -66,9 +65,8 @@ own-other digest tenant s told before after apart same = record {
       ap (λ (b : Bool). map (λ (x : Step × Response). x.1) (cond b ((s, told) ∷ []) [])) apart
       ∙ ap (λ (b : Bool). told_alone digest state (map (λ (x : Step × Response). (call_of x.0, stop_told x.1.answer)) (cond b ((s, told) ∷ []) []))) (sym apart);
   left = λ state leads.
-      subst (λ (b : Bool). Represents digest (left_alone digest state (map (λ (x : Step × Response). (call_of x.0, stop_told x.1.answer)) (cond b ((s, told) ∷ []) []))) after)
-      (sym apart)
-      (subst (λ (h : TenantState). Represents digest state h) (sym same) leads);
+      rw apart
+      (rw same leads);
 }
 
 -- ---- more steps
@@ -106,8 +104,7 @@ own-more digest tenant before between after first later h k = record {
       ∙ (λ i. h.told state leads i ++ k.told (left_alone digest state (steps_of tenant first)) (h.left state leads) i)
       ∙ sym (ap (told_alone digest state) (steps-more tenant first later) ∙ told-more digest state (steps_of tenant first) (steps_of tenant later));
   left = λ state leads.
-      subst (λ (s : State). Represents digest s after)
-      (sym (ap (left_alone digest state) (steps-more tenant first later) ∙ left-more digest state (steps_of tenant first) (steps_of tenant later)))
+      rw (ap (left_alone digest state) (steps-more tenant first later) ∙ left-more digest state (steps_of tenant first) (steps_of tenant later))
       (k.left (left_alone digest state (steps_of tenant first)) (h.left state leads));
 }
 
@@ -140,7 +137,7 @@ own-named digest tenant s given true p q es new answer out out' which h = by (by
     by true here =
         let same : given ≡ tenant = (bytes_eq-Decides given tenant).0 here in
         own-call digest tenant s answer out out' _ _ (which ∙ here)
-        (subst (λ (n : List ℕ). Takes (step_held digest (call_of s) (stop_told answer) (held_of n (holdings p es))) answer out out' (held_of n (holdings q new))) same h.own)
+        (rw (← same) h.own)
     by false apart =
         own-other digest tenant s (response_in answer out out') _ _ (which ∙ apart) (h.others tenant (apart-back given tenant apart))
 
@@ -220,9 +217,8 @@ pub run-goes_on : (digest : List ℕ → List ℕ) (tenant : List ℕ) (before b
     → IsIsolated digest tenant between ((get_or steps i d, told) ∷ []) after
     → IsIsolated digest tenant before (run_of steps (told_since old new)) after
 run-goes_on digest tenant before between after steps old all new r told i d count within is says h k =
-    subst (λ (run : Run). IsIsolated digest tenant before run after)
-    (sym (ap (λ (rs : List Reply). run_of steps (told_since old rs)) is ∙ run-more steps old all r i d count within
-    ∙ ap (λ (t : Response). run_of steps (told_since old all) ++ (get_or steps i d, t) ∷ []) (sym says)))
+    rw (ap (λ (rs : List Reply). run_of steps (told_since old rs)) is ∙ run-more steps old all r i d count within
+    ∙ ap (λ (t : Response). run_of steps (told_since old all) ++ (get_or steps i d, t) ∷ []) (sym says))
     (own-more digest tenant before between after (run_of steps (told_since old all)) ((get_or steps i d, told) ∷ []) h k)
 
 pub bad-goes_on : (steps : List Step) (old all new : List Reply) (r : Reply) (told : Response) (i : ℕ) (d : Step)
@@ -230,13 +226,12 @@ pub bad-goes_on : (steps : List Step) (old all new : List Reply) (r : Reply) (to
     → AllByRecursion IsRefused (run_of steps (told_since old all)) → IsRefused (get_or steps i d, told)
     → AllByRecursion IsRefused (run_of steps (told_since old new))
 bad-goes_on steps old all new r told i d count within is says h k =
-    subst (λ (run : Run). AllByRecursion IsRefused run)
-    (sym (ap (λ (rs : List Reply). run_of steps (told_since old rs)) is ∙ run-more steps old all r i d count within
-    ∙ ap (λ (t : Response). run_of steps (told_since old all) ++ (get_or steps i d, t) ∷ []) (sym says)))
+    rw (ap (λ (rs : List Reply). run_of steps (told_since old rs)) is ∙ run-more steps old all r i d count within
+    ∙ ap (λ (t : Response). run_of steps (told_since old all) ++ (get_or steps i d, t) ∷ []) (sym says))
     (all_whole IsRefused (run_of steps (told_since old all)) ((get_or steps i d, told) ∷ []) h (k, tt))
 
 pub bad-none : (steps : List Step) (old : List Reply) → AllByRecursion IsRefused (run_of steps (told_since old old))
-bad-none steps old = subst (λ (run : Run). AllByRecursion IsRefused run) (sym (run-none steps old)) tt
+bad-none steps old = rw (run-none steps old) tt
 
 -- ---- what is always true of a service
 

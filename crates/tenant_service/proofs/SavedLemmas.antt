@@ -1,12 +1,12 @@
 -- What of a service comes back from a pool file.
-use Rattle.std.proofs.Common.{◌≡◌, ℕ, Bool, true, false, cond, List, [], ◌∷◌, map, length, filter, Option, None, Some, T, refl, sym, ap, subst, ◌∙◌, inl, inr, arith, true≢false}
+use Rattle.std.proofs.Common.{◌≡◌, ℕ, Bool, true, false, cond, List, [], ◌∷◌, map, length, filter, Option, None, Some, refl, sym, ap, subst, ◌∙◌, inl, inr, arith, true≢false}
 use Rattle.std.specs.Prelude.{◌||◌, not, nat_lt}
 use Rattle.std.specs.List.{AllByRecursion, IsDistinct}
 use Rattle.std.specs.Map.{keys_of, lookup}
 use Rattle.std.specs.Option.{option_map, unwrap_or}
 use Rattle.std.specs.Ordering.{eq_by_cmp}
 use Rattle.std.specs.Str.{bytes_eq}
-use Rattle.std.specs.FinMap.{FinMap, find, is_sorted, entries, entries_sorted, from_entries, get, get-entries, get-from_entries, get-empty, empty, same_map}
+use Rattle.std.specs.FinMap.{FinMap, find, entries, entries_sorted, from_entries, get, get-entries, get-from_entries, get-empty, empty, same_map}
 use Rattle.std.proofs.lemmas.Bool.Decides.{nat_tests}
 use Rattle.std.proofs.lemmas.Cmp.{nat_list_cmp_total}
 use Rattle.std.proofs.lemmas.Slice.Eq.{bytes_eq-Decides}
@@ -82,13 +82,13 @@ module _ {X : Type 0} (key : X → List ℕ) where
     unfolding listed_by
     listed_has x h =
         let f = from_map (λ (e : List ℕ × X). e.1) (entries listing) x h in
-        subst (λ (y : X). Has xs y) f.is (of_entry f.from f.there).0
+        rw (← f.is) (of_entry f.from f.there).0
 
     pub listed_rises : AreRising None (map key (listed_by key xs))
     listed_rises =
         subst (AreRising None) (keys_keyed (listed_by key xs))
         (rising_sorted (keyed (listed_by key xs))
-        (subst (λ (es : List (List ℕ × X)). T (is_sorted key_cmp es)) (sym keyed_listed)
+        (rw keyed_listed
         (entries_sorted listing)))
 
 -- ---- repositories by their tenants' names
@@ -179,8 +179,7 @@ worth-repository q (n ∷ ns) distinct loses =
         let same : q ≡ n.tenant = (bytes_eq-Decides q n.tenant).0 here in
         later
         ∙ ap (λ (o : Option Repository). unwrap_or o empty_repository)
-        (absent q ns (subst (λ (x : List ℕ). AllByRecursion (λ y. bytes_eq x y ≡ false)
-        (map (λ m. m.tenant) ns)) (sym same) distinct.0))
+        (absent q ns (rw same distinct.0))
         ∙ sym (loses n (inl refl) worth)
     by false worth false here later = later
 
@@ -219,7 +218,7 @@ pub saved-repository : (q : List ℕ) (all : TenantStates) → IsDistinct bytes_
 saved-repository q all distinct loses =
     listed-repository q (filter is_worth_saving (last_named all))
     ∙ worth-repository q (last_named all)
-    (subst (λ (names : List (List ℕ)). IsDistinct bytes_eq names) (sym (keys-last all)) distinct)
+    (rw (keys-last all) distinct)
     loses
     ∙ last-repository q all
 
@@ -268,5 +267,5 @@ empty_of n are worth =
     let head = (bytes_eq-Decides n.repository.refs.head first_head).0
     (not_false (bytes_eq n.repository.refs.head first_head) w.1) in
     let refs = no_refs_of n.repository.refs
-    (subst (λ (os : List Object). AreRefs os n.repository.refs) none are) head in
+    (rw (← none) are) head in
     λ i. record { objects = none i; refs = refs i }

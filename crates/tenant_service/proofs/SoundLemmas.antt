@@ -1,5 +1,5 @@
 -- What is held of a tenant stays sound.
-use Rattle.std.proofs.Common.{◌≡◌, ℕ, zero, suc, Bool, true, false, cond, List, [], length, take, Option, None, Some, Result, Ok, Err, refl, sym, ap, subst, ◌∙◌}
+use Rattle.std.proofs.Common.{◌≡◌, ℕ, zero, suc, Bool, true, false, cond, List, [], length, take, Option, None, Some, Result, Ok, Err, refl, ap, ◌∙◌}
 use Rattle.std.specs.Prelude.{nat_le}
 use Rattle.std.specs.Map.{lookup}
 use Rattle.std.specs.Str.{bytes_eq}
@@ -27,7 +27,7 @@ use Rattle.tenant_service.specs.declared.tenant.OpenStream.{OpenStream}
 use Rattle.tenant_service.specs.declared.tenant.OpenStream.TheVariants as phase
 use Rattle.tenant_service.specs.declared.tenant.Tenant.{Tenant}
 use Rattle.tenant_service.specs.Alone.{Call, Open, Feed, End, Ask, Restart, StepResult, Stopped, answered, asked, ended, ended_well, stop_at, stop_after, unless_out_of_memory}
-use Rattle.tenant_service.specs.TenantState.{TenantState, TenantStates, Idle, Busy, held_of}
+use Rattle.tenant_service.specs.TenantState.{TenantState, Idle, Busy, held_of}
 use Rattle.tenant_service.specs.Soundness.{IsSoundTenantState}
 use Rattle.tenant_service.specs.HeldSteps.{end_held, fed_held, feed_held, gone_on, held_until, open_held, step_held}
 use Rattle.tenant_service.specs.HeldObjects.{last_held}
@@ -169,7 +169,7 @@ module _ (digest : List ℕ → List ℕ) (names : AnswersNames digest) where
       → Takes (step_held digest call stop before) answer out out' after
       → IsSoundTenantState digest before → IsSoundTenantState digest after
   takes-sound call stop before answer out out' after takes sound =
-      subst (λ (held : TenantState). IsSoundTenantState digest held) takes.leaves
+      rw (← takes.leaves)
       (call-sound call stop before sound)
 
   -- ---- all tenants
@@ -179,18 +179,17 @@ module _ (digest : List ℕ → List ℕ) (names : AnswersNames digest) where
       → Calls digest b name call (store p es) answer out out' (store q new)
       → AreSound digest (holdings p es) → AreSound digest (holdings q new)
   calls-sound false name call p es answer out out' q new h sound =
-      subst (λ (all : TenantStates). AreSound digest all) (sym h.same) sound
+      rw h.same sound
   calls-sound true name call p es answer out out' q new h sound = λ tenant.
       by tenant (bytes_eq tenant name) refl
     where
       by : (tenant : List ℕ) (b : Bool) → bytes_eq tenant name ≡ b
           → IsSoundTenantState digest (held_of tenant (holdings q new))
       by tenant true here =
-          subst (λ (n : List ℕ). IsSoundTenantState digest (held_of n (holdings q new)))
-          (sym ((bytes_eq-Decides tenant name).0 here))
+          rw ((bytes_eq-Decides tenant name).0 here)
           (takes-sound call _ _ answer out out' _ h.own (sound name))
       by tenant false apart =
-          subst (λ (held : TenantState). IsSoundTenantState digest held) (sym (h.others tenant apart))
+          rw (h.others tenant apart)
           (sound tenant)
 
   -- each step leaves all sound
@@ -206,8 +205,7 @@ module _ (digest : List ℕ → List ℕ) (names : AnswersNames digest) where
   sound-on (step.Ask given query) p es answer out out' q new h sound =
       calls-sound _ _ _ p es answer out out' q new h sound
   sound-on step.Restart p es answer out out' q new h sound = λ tenant.
-      subst (λ (held : TenantState). IsSoundTenantState digest held)
-      (sym (ap (held_of tenant) h.closed ∙ held-restarted tenant (holdings p es)))
+      rw (ap (held_of tenant) h.closed ∙ held-restarted tenant (holdings p es))
       (last-sound digest (held_of tenant (holdings p es)) (sound tenant))
 
 -- a stream that runs
@@ -216,14 +214,14 @@ pub sound-running : (digest : List ℕ → List ℕ) (ph : OpenStream) (o : Open
     → IsSoundTenantState digest (held_in ph p t r)
     → IsSound digest (stream_in s p t r).workspace
 sound-running digest ph o s p t r is sound =
-    (subst (λ (x : OpenStream). IsSoundTenantState digest (held_in x p t r)) is sound).1
+    (rw is at sound).1
 
 -- one that is there
 pub sound-found : (digest : List ℕ → List ℕ) (p : Cells) (name : List ℕ) (es : Tenants)
     (t : Tenant) → AreSound digest (holdings p es) → lookup (bytes_eq name) es ≡ Some t
     → IsSoundTenantState digest (holding_in p t)
 sound-found digest p name es t sound got =
-    subst (λ (held : TenantState). IsSoundTenantState digest held) (held-found p name es t got)
+    rw (← (held-found p name es t got))
     (sound name)
 
 -- nobody

@@ -1,41 +1,16 @@
--- What a piece did to a stream: it went on, was refused, or stopped.
-use Rattle.std.proofs.Common.{◌≡◌, ℕ, Bool, false, true, cond, leb, List, [], ◌++◌, length, take, None, Some, sym, ap, ◌∙◌, arith, append-nil}
+-- Where a stream stopped in a piece.
+use Rattle.std.proofs.Common.{◌≡◌, ℕ, Bool, false, true, cond, leb, List, [], ◌++◌, length, take, None, Some, Result, Ok, Err, refl, sym, ap, ◌∙◌, arith, append-nil}
 use Rattle.std.proofs.lemmas.Bool.{le-leb}
 use Rattle.std.proofs.lemmas.List.{length-append}
 use Rattle.std.proofs.Math.Seq.{take-append_seam}
 use Rattle.git_model.specs.Repository.{Repository}
-use Rattle.stream_lex.specs.Items.{Item, Tail, Rest, Reading}
-use Rattle.stream_lex.specs.Running.{more_of, extended}
-use Rattle.import_session.specs.Stream.{Running, Runs, Refused, Outcome, after_reply, carried, last_checkpoint}
-use Rattle.tenant_stream.specs.Carrying.{Goes, Fails, Stops}
-use Rattle.tenant_stream.proofs.StreamLemmas.{carried-tail, more-extended, outcome-advanced, status-drained, replies-after}
+use Rattle.stream_lex.specs.Items.{Item, Rest, Reading}
+use Rattle.stream_lex.specs.Running.{more_of}
+use Rattle.import_session.specs.Stream.{Running, Runs, Outcome, after_reply, carried, last_checkpoint}
+use Rattle.tenant_stream.specs.declared.stream_error.StreamError.{StreamError}
+use Rattle.tenant_stream.specs.Carrying.{Feeds, Held, RanOutAfter, with_piece}
+use Rattle.tenant_stream.proofs.StreamLemmas.{carried-tail, more-extended, replies-after}
 use Rattle.tenant_service.specs.Alone.{stop_at, stop_after}
-use Rattle.tenant_service.specs.OneStep.{GoesTo, StopsAfter}
-
--- all that was whole was carried out
-pub GoesTo-goes : (digest : List ℕ → List ℕ) (now next : Running) (tail rest : Tail) (piece out out' : List ℕ)
-    → Goes digest now (extended tail piece) out next rest out'
-    → GoesTo digest now tail piece out out' (Runs next (cond next.is_done (Rest false []) rest))
-GoesTo-goes digest now next tail rest piece out out' h = record {
-  replies = h.replies;
-  outcome = outcome-advanced digest now next tail rest piece h.items h.replies h.advances.reads h.advances.carries
-      ∙ ap (after_reply h.replies) (status-drained digest next rest h.drained)
-      ∙ replies-after h.replies _;
-  printed = h.printed;
-}
-
--- what stands after the items refuses the stream
-pub GoesTo-fails : (digest : List ℕ → List ℕ) (now left : Running) (tail : Tail) (piece out out' : List ℕ) (code : ℕ)
-    → Fails digest now (extended tail piece) out code left out'
-    → GoesTo digest now tail piece out out' (Refused code (last_checkpoint left.workspace))
-GoesTo-fails digest now left tail piece out out' code h = record {
-  replies = h.ends.replies;
-  outcome = outcome-advanced digest now h.last tail h.rest piece h.items h.ends.replies h.ends.advances.reads h.ends.advances.carries
-      ∙ ap (after_reply h.ends.replies) (h.refused [])
-      ∙ replies-after h.ends.replies _
-      ∙ ap (λ (r : Repository). record { replies = h.ends.replies; status = Refused code r }) (sym h.ends.checkpoint);
-  printed = h.ends.printed;
-}
 
 -- the first items and the replies of those
 pub stop-first : (digest : List ℕ → List ℕ) (now last : Running) (items later : List Item) (replies : List ℕ)
@@ -54,14 +29,23 @@ stop-first digest now last items later replies carries running =
     ∙ ap (λ (o : Outcome). stop_at o.replies o.status) first ∙ test
 
 -- memory ran out after some items
-pub StopsAfter-stops : (digest : List ℕ → List ℕ) (now left : Running) (tail : Tail) (piece out out' : List ℕ) (count : ℕ)
-    → Stops digest now (extended tail piece) out count left out'
-    → StopsAfter digest now tail piece count out out' left
-StopsAfter-stops digest now left tail piece out out' count h = record {
-  replies = h.ends.replies;
-  stop = ap (λ (r : Reading). stop_after digest now r.items count) (sym (more-extended tail piece) ∙ h.ends.advances.reads [])
-      ∙ ap (λ (n : ℕ). stop_after digest now (h.items ++ (more_of h.rest []).items) n) (sym h.counted)
-      ∙ stop-first digest now h.last h.items (more_of h.rest []).items h.ends.replies (h.ends.advances.carries [] (Rest false [])) h.ends.running
-      ∙ ap (λ (r : Repository). Some (record { replies = h.ends.replies; repository = r })) (sym h.ends.checkpoint);
-  printed = h.ends.printed;
-}
+pub stop-ran_out : (digest : List ℕ → List ℕ) (before : Held) (piece : List ℕ) (count : ℕ) (after : Held)
+    (h : RanOutAfter digest (with_piece before piece) count after)
+    → stop_after digest before.running (more_of before.tail piece).items count
+    ≡ Some (record { replies = h.stopped.carried_out.replies; repository = last_checkpoint after.running.workspace })
+stop-ran_out digest before piece count after h =
+    let so_far = h.stopped.carried_out in
+    ap (λ (r : Reading). stop_after digest before.running r.items count) (sym (more-extended before.tail piece) ∙ so_far.reads [])
+    ∙ ap (λ (n : ℕ). stop_after digest before.running (h.items ++ (more_of h.middle.tail []).items) n) (sym h.counted)
+    ∙ stop-first digest before.running h.middle.running h.items (more_of h.middle.tail []).items so_far.replies
+    (so_far.goes_on [] (Rest false [])) h.stopped.running
+    ∙ ap (λ (r : Repository). Some (record { replies = so_far.replies; repository = r })) (sym h.stopped.checkpoint)
+
+-- a stream that stopped had not read `done`
+pub stopped-running : (digest : List ℕ → List ℕ) (before : Held) (piece : List ℕ) (e : StreamError) (after : Held)
+    → Feeds digest before piece (Err e) after → before.running.is_done ≡ false
+stopped-running digest before piece e after h = by before.running.is_done refl
+  where
+    by : (b : Bool) → before.running.is_done ≡ b → before.running.is_done ≡ false
+    by false running = running
+    by true done = let no : ◌≡◌ {A = Result Unit StreamError} (Err e) (Ok tt) = (h.ignored done).0 in cc no

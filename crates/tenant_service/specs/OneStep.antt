@@ -1,12 +1,9 @@
 -- What a step does to the tenants and the pool: definitions for the contracts of private functions.
 -- No public clause cites them.
-use Rattle.std.specs.Prelude.{◌≡◌, ℕ, zero, suc, Bool, true, false, List, [], ◌∷◌, ◌++◌, map, Some, Result, Ok, Err}
+use Rattle.std.specs.Prelude.{◌≡◌, ℕ, zero, suc, Bool, true, false, List, [], ◌∷◌, ◌++◌, map}
 use Rattle.std.specs.Str.{bytes_eq}
 use Rattle.content_pool.specs.Pool.{Cells}
 use Rattle.tenant_refs.specs.TenantName.{is_tenant_name}
-use Rattle.stream_lex.specs.Items.{Tail}
-use Rattle.stream_lex.specs.Running.{more_of}
-use Rattle.import_session.specs.Stream.{Running, StreamStatus, Runs, Refused, last_checkpoint}
 use Rattle.answers.specs.declared.fault.Fault.{Fault}
 use Rattle.answers.specs.declared.fault.Fault.TheVariants as fault
 use Rattle.answers.specs.Faults.{code_of}
@@ -16,10 +13,7 @@ use Rattle.service_steps.specs.declared.fault.ServiceFault.TheVariants as servic
 use Rattle.service_steps.specs.Faults.{code_of as service_code}
 use Rattle.service_steps.specs.declared.step.Step.{Step}
 use Rattle.service_steps.specs.declared.step.Step.TheVariants as step
-use Rattle.tenant_stream.specs.declared.stream_error.StreamError.{StreamError}
-use Rattle.tenant_stream.specs.declared.stream_error.StreamError.TheVariants as stop
-use Rattle.tenant_stream.specs.Carrying.{outcome_after}
-use Rattle.tenant_service.specs.Alone.{Call, StepResult, stop_after}
+use Rattle.tenant_service.specs.Alone.{Call, StepResult}
 use Rattle.tenant_service.specs.Headline.{call_of, stop_told}
 use Rattle.tenant_service.specs.TenantState.{TenantState, Idle, TenantStates, held_of}
 use Rattle.tenant_service.specs.HeldObjects.{last_held}
@@ -33,31 +27,6 @@ pub record Takes (t : StepResult TenantState) (answer : Answer) (out out' : List
   pub answered : t.answer ≡ answer
   pub printed : out' ≡ out ++ t.reply
   pub leaves : t.state ≡ left
-
--- What bytes did to a stream: it printed their replies, and stands as they left it.
-pub record GoesTo (digest : List ℕ → List ℕ) (now : Running) (tail : Tail) (piece : List ℕ)
-    (out out' : List ℕ) (left : StreamStatus) : Type 0 where
-  pub replies : List ℕ
-  pub outcome : outcome_after digest now tail piece ≡ record { replies = replies; status = left }
-  pub printed : out' ≡ out ++ replies
-
--- Memory ran out after so many items.
-pub record StopsAfter (digest : List ℕ → List ℕ) (now : Running) (tail : Tail) (piece : List ℕ)
-    (count : ℕ) (out out' : List ℕ) (left : Running) : Type 0 where
-  pub replies : List ℕ
-  pub stop : stop_after digest now (more_of tail piece).items count
-      ≡ Some (record { replies = replies; repository = last_checkpoint left.workspace })
-  pub printed : out' ≡ out ++ replies
-
--- What came of a piece of a stream, which goes on or is given up.
-abbrev pub Fed : (List ℕ → List ℕ) → Running → Tail → List ℕ → List ℕ → Result Unit StreamError
-    → List ℕ → Running → Tail → Type 0
-Fed digest now tail piece out (Ok u) out' next kept =
-    GoesTo digest now tail piece out out' (Runs next kept)
-Fed digest now tail piece out (Err (stop.Fault code)) out' next kept =
-    GoesTo digest now tail piece out out' (Refused code (last_checkpoint next.workspace))
-Fed digest now tail piece out (Err (stop.Memory count)) out' next kept =
-    StopsAfter digest now tail piece count out out' next
 
 -- The answer to a query that is refused. Running out of memory has an answer of its own.
 abbrev pub refusal_told : Fault → Answer

@@ -7,13 +7,13 @@ use Rattle.content_pool.specs.Pool.{Cells}
 use Rattle.tenant_tables.specs.View.{View}
 use Rattle.stream_lex.specs.Items.{Item, Tail, Rest, Failed}
 use Rattle.stream_parts.specs.declared.fault.Fault.{Fault}
-use Rattle.stream_commands.specs.Workspace.{Effect}
+use Rattle.stream_commands.specs.Workspace.{Effect, Workspace}
 use Rattle.import_session.specs.Stream.{Running, Step, Outcome, StreamStatus, Runs, Refused, at_tail, carried, end_left, ended_well, finished, going_on, last_checkpoint, running_end, session_end, step, tail_outcome}
 use Rattle.import_session.specs.Sound.{IsSound, IsSoundRepository}
 use Rattle.session_laws.proofs.SoundLemmas.{item_keeps, end_keeps, checkpoint_is_sound}
 use Rattle.tenant_stream.specs.declared.stream_error.StreamError.{StreamError}
 use Rattle.tenant_stream.specs.declared.stream_error.StreamError.TheVariants as stop
-use Rattle.tenant_stream.specs.Carrying.{StreamView, Advances, Carries, Ends, EndsAs, stream_in}
+use Rattle.tenant_stream.specs.Carrying.{Held, StreamView, HasCarriedOut, HasStoppedAfter, Carries, EndsAs, stream_in}
 use Rattle.tenant_stream.specs.Soundness.{IsSoundStreamStatus, LeavesSound}
 
 -- what a value of the code stands for is what its stream stands for
@@ -23,24 +23,12 @@ pub sound_as : (digest : List ℕ → List ℕ) (inside stream : StreamView) (po
 sound_as digest inside stream pool table refs same =
     subst (λ (b : StreamView). IsSound digest (stream_in b pool table refs).workspace) (sym same)
 
--- ---- bytes that are left
+-- ---- what each item keeps, a stream keeps
 
-tail_sound : (digest : List ℕ → List ℕ) (now : Running) (tail : Tail)
-    → IsSound digest now.workspace
-    → IsSoundStreamStatus digest (tail_outcome now tail).status
-tail_sound digest now (Rest skips bytes) sound = sound
-tail_sound digest now (Failed fault) sound = checkpoint_is_sound digest now.workspace sound
-
-at_tail_sound : (digest : List ℕ → List ℕ) (now : Running) (tail : Tail)
-    → IsSound digest now.workspace → IsSoundStreamStatus digest (at_tail now tail).status
-unfolding at_tail
-at_tail_sound digest now tail sound = by now.is_done
-  where
-    by : (b : Bool) → IsSoundStreamStatus digest (cond b
-        (record { replies = []; status = Runs now (Rest false []) })
-        (tail_outcome now tail)).status
-    by true = sound
-    by false = tail_sound digest now tail sound
+-- The workspace of a running stream is kept so, or a refused stream left such a repository.
+abbrev StandsSo : (Workspace → Type 0) → (Repository → Type 0) → StreamStatus → Type 0
+StandsSo IsKept IsLeft (Runs now tail) = IsKept now.workspace
+StandsSo IsKept IsLeft (Refused code repository) = IsLeft repository
 
 rest_stands : (digest : List ℕ → List ℕ) (next : Running)
     → (carried digest next [] (Rest false [])).status ≡ Runs next (Rest false [])
@@ -52,55 +40,91 @@ rest_stands digest next = by next.is_done
     by true = refl
     by false = refl
 
+module _ (digest : List ℕ → List ℕ) (IsKept : Workspace → Type 0) (IsLeft : Repository → Type 0)
+    (keeps : (now : Running) (item : Item) (s : Step) → IsKept now.workspace
+    → step digest now item ≡ Ok s → IsKept s.running.workspace)
+    (leaves : (w : Workspace) → IsKept w → IsLeft (last_checkpoint w)) where
+  tail_stands : (now : Running) (tail : Tail) → IsKept now.workspace
+      → StandsSo IsKept IsLeft (tail_outcome now tail).status
+  tail_stands now (Rest skips bytes) kept = kept
+  tail_stands now (Failed fault) kept = leaves now.workspace kept
+
+  at_tail_stands : (now : Running) (tail : Tail) → IsKept now.workspace
+      → StandsSo IsKept IsLeft (at_tail now tail).status
+  unfolding at_tail
+  at_tail_stands now tail kept = by now.is_done
+    where
+      by : (b : Bool) → StandsSo IsKept IsLeft (cond b
+          (record { replies = []; status = Runs now (Rest false []) })
+          (tail_outcome now tail)).status
+      by true = kept
+      by false = tail_stands now tail kept
+
+  carried_stands : (now : Running) (items : List Item) (tail : Tail) → IsKept now.workspace
+      → StandsSo IsKept IsLeft (carried digest now items tail).status
+  unfolding carried
+  carried_stands now [] tail kept = at_tail_stands now tail kept
+  carried_stands now (item ∷ items) tail kept =
+      by (step digest now item) refl (λ next. carried_stands next items tail)
+    where
+      by : (r : Result Step Fault) → step digest now item ≡ r
+          → ((next : Running) → IsKept next.workspace
+          → StandsSo IsKept IsLeft (carried digest next items tail).status)
+          → StandsSo IsKept IsLeft (going_on now r (λ next. carried digest next items tail)).status
+      by (Ok s) was later = later s.running (keeps now item s kept was)
+      by (Err fault) was later = leaves now.workspace kept
+
+  pub items_keep : (before : Held) (items : List Item) (after : Held)
+      → HasCarriedOut digest before items after
+      → IsKept before.running.workspace → IsKept after.running.workspace
+  items_keep before items after h kept =
+      subst (StandsSo IsKept IsLeft)
+      (ap (λ (o : Outcome). o.status) (h.goes_on [] (Rest false []))
+      ∙ rest_stands digest after.running)
+      (carried_stands before.running (items ++ []) (Rest false []) kept)
+
 -- ---- items
+
+status_sound : (digest : List ℕ → List ℕ) (status : StreamStatus)
+    → StandsSo (IsSound digest) (IsSoundRepository digest) status
+    → IsSoundStreamStatus digest status
+status_sound digest (Runs now tail) sound = sound
+status_sound digest (Refused code repository) sound = sound
 
 module _ (digest : List ℕ → List ℕ) (names : AnswersNames digest) where
   -- a sound stream stands soundly after any items
   pub carried_sound : (now : Running) (items : List Item) (tail : Tail)
       → IsSound digest now.workspace
       → IsSoundStreamStatus digest (carried digest now items tail).status
-  unfolding carried
-  carried_sound now [] tail sound = at_tail_sound digest now tail sound
-  carried_sound now (item ∷ items) tail sound =
-      by (step digest now item) refl (λ next. carried_sound next items tail)
-    where
-      by : (r : Result Step Fault) → step digest now item ≡ r
-          → ((next : Running) → IsSound digest next.workspace
-          → IsSoundStreamStatus digest (carried digest next items tail).status)
-          → IsSoundStreamStatus digest
-          (going_on now r (λ next. carried digest next items tail)).status
-      by (Ok s) was later = later s.running (item_keeps digest names now item s sound was)
-      by (Err fault) was later = checkpoint_is_sound digest now.workspace sound
+  carried_sound now items tail sound =
+      status_sound digest (carried digest now items tail).status
+      (carried_stands digest (IsSound digest) (IsSoundRepository digest) (item_keeps digest names)
+      (checkpoint_is_sound digest) now items tail sound)
 
-  pub advances_sound : (now : Running) (old : Tail) (items : List Item) (replies : List ℕ)
-      (next : Running) (new : Tail) → Advances digest now old items replies next new
-      → IsSound digest now.workspace → IsSound digest next.workspace
-  advances_sound now old items replies next new adv sound =
-      subst (λ (s : StreamStatus). IsSoundStreamStatus digest s)
-      (ap (λ (o : Outcome). o.status) (adv.carries [] (Rest false []))
-      ∙ rest_stands digest next)
-      (carried_sound now (items ++ []) (Rest false []) sound)
+  pub stays_sound : (before : Held) (items : List Item) (after : Held)
+      → HasCarriedOut digest before items after
+      → IsSound digest before.running.workspace → IsSound digest after.running.workspace
+  stays_sound before items after h sound =
+      items_keep digest (IsSound digest) (IsSoundRepository digest) (item_keeps digest names)
+      (checkpoint_is_sound digest) before items after h sound
 
-  left_sound : (now : Running) (old : Tail) (out : List ℕ) (items : List Item) (last : Running)
-      (rest : Tail) (left : Running) (out' : List ℕ)
-      → Ends digest now old out items last rest left out' → IsSound digest now.workspace
-      → IsSoundRepository digest (last_checkpoint left.workspace)
-  left_sound now old out items last rest left out' ends sound =
-      subst (λ (r : Repository). IsSoundRepository digest r) (sym ends.checkpoint)
-      (checkpoint_is_sound digest last.workspace
-      (advances_sound now old items ends.replies last rest ends.advances sound))
+  left_sound : (before : Held) (items : List Item) (middle after : Held)
+      → HasStoppedAfter digest before items middle after → IsSound digest before.running.workspace
+      → IsSoundRepository digest (last_checkpoint after.running.workspace)
+  left_sound before items middle after h sound =
+      rw h.checkpoint
+      (checkpoint_is_sound digest middle.running.workspace
+      (stays_sound before items middle h.carried_out sound))
 
   -- what a piece leaves
-  pub carries_sound : (now : Running) (old : Tail) (out : List ℕ) (result : Result Unit StreamError)
-      (next : Running) (new : Tail) (out' : List ℕ)
-      → Carries digest now old out result next new out' → IsSound digest now.workspace
-      → LeavesSound digest result next.workspace
-  carries_sound now old out (Ok u) next new out' h sound =
-      advances_sound now old h.items h.replies next new h.advances sound
-  carries_sound now old out (Err (stop.Fault code)) next new out' h sound =
-      left_sound now old out h.items h.last h.rest next out' h.ends sound
-  carries_sound now old out (Err (stop.Memory count)) next new out' h sound =
-      left_sound now old out h.items h.last h.rest next out' h.ends sound
+  pub carries_sound : (before : Held) (result : Result Unit StreamError) (after : Held)
+      → Carries digest before result after → IsSound digest before.running.workspace
+      → LeavesSound digest result after.running.workspace
+  carries_sound before (Ok u) after h sound = stays_sound before h.items after h.carried_out sound
+  carries_sound before (Err (stop.Fault code)) after h sound =
+      left_sound before h.items h.middle after h.stopped sound
+  carries_sound before (Err (stop.Memory count)) after h sound =
+      left_sound before h.items h.middle after h.stopped sound
 
   -- ---- the end
 
@@ -131,15 +155,12 @@ module _ (digest : List ℕ → List ℕ) (names : AnswersNames digest) where
       by true = checkpoint_is_sound digest now.workspace sound
       by false = running_sound now tail sound
 
-  pub ended_sound : (now : Running) (tail : Tail) (out : List ℕ) (result : Result Unit StreamError)
-      (left : Repository) (out' : List ℕ) → EndsAs digest now tail out result left out'
-      → IsSound digest now.workspace → IsSoundRepository digest left
-  ended_sound now tail out (Ok u) left out' h sound =
-      subst (λ (r : Repository). IsSoundRepository digest r) h.stands
-      (finished_sound (Runs now tail) sound)
-  ended_sound now tail out (Err (stop.Fault code)) left out' h sound =
-      subst (λ (r : Repository). IsSoundRepository digest r) h.stands
-      (finished_sound (Runs now tail) sound)
-  ended_sound now tail out (Err (stop.Memory count)) left out' h sound =
-      subst (λ (r : Repository). IsSoundRepository digest r) h.stands
-      (checkpoint_is_sound digest now.workspace sound)
+  pub ended_sound : (before : Held) (result : Result Unit StreamError) (left : Repository)
+      (out : List ℕ) → EndsAs digest before result left out
+      → IsSound digest before.running.workspace → IsSoundRepository digest left
+  ended_sound before (Ok u) left out h sound =
+      rw (← h.stands) (finished_sound (Runs before.running before.tail) sound)
+  ended_sound before (Err (stop.Fault code)) left out h sound =
+      rw (← h.stands) (finished_sound (Runs before.running before.tail) sound)
+  ended_sound before (Err (stop.Memory count)) left out h sound =
+      rw (← h.stands) (checkpoint_is_sound digest before.running.workspace sound)

@@ -1,11 +1,12 @@
 -- Streams that go on and end.
 use Rattle.std.proofs.Common.{◌≡◌, ℕ, Bool, true, false, cond, List, [], ◌∷◌, ◌++◌, Result, Ok, refl, sym, ap, ◌∙◌, append-nil}
-use Rattle.stream_lex.specs.Items.{Item, Tail, Rest, Failed, Reading, after_items}
+use Rattle.git_model.specs.Repository.{Repository}
+use Rattle.stream_lex.specs.Items.{Item, Tail, Rest, Failed, Reading}
 use Rattle.stream_lex.specs.Reading.{reading}
 use Rattle.stream_lex.specs.Running.{more_of, extended}
 use Rattle.stream_parts.specs.declared.fault.Fault.{Fault}
-use Rattle.import_session.specs.Stream.{Running, Step, StreamStatus, Runs, after_reply, carried, going_on, step, taken, at_tail, tail_outcome}
-use Rattle.tenant_stream.specs.Carrying.{IsDrained, outcome_after}
+use Rattle.import_session.specs.Stream.{Running, Step, StreamStatus, Runs, Refused, after_reply, carried, going_on, last_checkpoint, step, taken, at_tail, tail_outcome}
+use Rattle.tenant_stream.specs.Carrying.{Held, HasCarriedOut, HasCarriedOutAll, IsDrained, WasRefused, outcome_after, with_piece}
 
 -- after `done` nothing is carried out
 at_tail-done : (now : Running) (tail : Tail) → now.is_done ≡ true
@@ -52,38 +53,33 @@ more-extended (Rest skips bytes) piece = ap (λ all. reading skips all) (append-
 more-extended (Failed fault) piece = refl
 
 -- what bytes do, by the items that were carried out first
-pub outcome-advanced : (digest : List ℕ → List ℕ) (now next : Running) (tail rest : Tail)
-    (piece : List ℕ) (items : List Item) (replies : List ℕ)
-    → ((more : List ℕ) → more_of (extended tail piece) more ≡ after_items items
-    (more_of rest more))
-    → ((later : List Item) (end : Tail) → carried digest now
-    (items ++ later) end ≡ after_reply replies (carried digest next later end))
-    → outcome_after digest now tail piece ≡ after_reply replies
-    (outcome_after digest next rest [])
-outcome-advanced digest now next tail rest piece items replies reads carries =
-    ap (λ (r : Reading). carried digest now r.items r.tail)
-    (sym (more-extended tail piece) ∙ reads [])
-    ∙ carries (more_of rest []).items (more_of rest []).tail
+pub outcome-carried : (digest : List ℕ → List ℕ) (before : Held) (piece : List ℕ) (items : List Item)
+    (after : Held) (h : HasCarriedOut digest (with_piece before piece) items after)
+    → outcome_after digest before.running before.tail piece
+    ≡ after_reply h.replies (outcome_after digest after.running after.tail [])
+outcome-carried digest before piece items after h =
+    ap (λ (r : Reading). carried digest before.running r.items r.tail)
+    (sym (more-extended before.tail piece) ∙ h.reads [])
+    ∙ h.goes_on (more_of after.tail []).items (more_of after.tail []).tail
 
 -- a stream of which all that was whole was carried out stands with what is left
-pub status-drained : (digest : List ℕ → List ℕ) (next : Running) (rest : Tail)
-    → IsDrained next.is_done rest
-    → outcome_after digest next rest [] ≡ record {
+status-drained : (digest : List ℕ → List ℕ) (held : Held)
+    → IsDrained held.running.is_done held.tail
+    → outcome_after digest held.running held.tail [] ≡ record {
       replies = [];
-      status = Runs next
-          (cond next.is_done (Rest false []) rest);
+      status = Runs held.running (cond held.running.is_done (Rest false []) held.tail);
     }
-status-drained digest next rest drained = by next.is_done refl rest drained
+status-drained digest held drained = by held.running.is_done refl held.tail drained
   where
-    by : (b : Bool) → next.is_done ≡ b → (tail : Tail) → IsDrained b tail
-        → outcome_after digest next tail [] ≡ record
-        { replies = []; status = Runs next (cond b (Rest false []) tail) }
-    by true done tail drained' = carried-done digest next (more_of tail []).items
-        (more_of tail []).tail done
+    by : (b : Bool) → held.running.is_done ≡ b → (tail : Tail) → IsDrained b tail
+        → outcome_after digest held.running tail [] ≡ record
+        { replies = []; status = Runs held.running (cond b (Rest false []) tail) }
+    by true done tail drained' =
+        carried-done digest held.running (more_of tail []).items (more_of tail []).tail done
     by false running (Rest skips bytes) none =
-        ap (λ (r : Reading). carried digest next r.items r.tail)
+        ap (λ (r : Reading). carried digest held.running r.items r.tail)
         (ap (λ all. reading skips all) (append-nil bytes) ∙ none)
-        ∙ carried-tail digest next (Rest skips bytes) running
+        ∙ carried-tail digest held.running (Rest skips bytes) running
     by false running (Failed fault) none = absurd none
 
 -- the replies of two parts
@@ -92,3 +88,30 @@ pub replies-after : (replies : List ℕ) (status : StreamStatus)
     { replies = replies; status = status }
 replies-after replies status = ap (λ (all : List ℕ). record
     { replies = all; status = status }) (append-nil replies)
+
+-- all that was whole was carried out
+pub outcome-all : (digest : List ℕ → List ℕ) (before : Held) (piece : List ℕ) (after : Held)
+    (h : HasCarriedOutAll digest (with_piece before piece) after)
+    → outcome_after digest before.running before.tail piece ≡ record {
+      replies = h.carried_out.replies;
+      status = Runs after.running (cond after.running.is_done (Rest false []) after.tail);
+    }
+outcome-all digest before piece after h =
+    outcome-carried digest before piece h.items after h.carried_out
+    ∙ ap (after_reply h.carried_out.replies) (status-drained digest after h.drained)
+    ∙ replies-after h.carried_out.replies _
+
+-- what stands after the items refuses the stream
+pub outcome-refused : (digest : List ℕ → List ℕ) (before : Held) (piece : List ℕ) (code : ℕ)
+    (after : Held) (h : WasRefused digest (with_piece before piece) code after)
+    → outcome_after digest before.running before.tail piece ≡ record {
+      replies = h.stopped.carried_out.replies;
+      status = Refused code (last_checkpoint after.running.workspace);
+    }
+outcome-refused digest before piece code after h =
+    outcome-carried digest before piece h.items h.middle h.stopped.carried_out
+    ∙ ap (after_reply h.stopped.carried_out.replies) (h.refused [])
+    ∙ replies-after h.stopped.carried_out.replies _
+    ∙ ap (λ (r : Repository). record
+    { replies = h.stopped.carried_out.replies; status = Refused code r })
+    (sym h.stopped.checkpoint)

@@ -27,6 +27,24 @@ new_stream = record { session = new_session; tail = Rest false [] }
 abbrev pub stream_in : StreamView → Cells → View → RefStore → Running
 stream_in stream pool table refs = running_in stream.session pool table refs
 
+-- What a stream holds between two pieces: the running stream, the bytes that have not given an item
+-- yet, and the output so far.
+pub record Held : Type 0 where
+  pub running : Running
+  pub tail : Tail
+  pub out : List ℕ
+
+abbrev pub held_with : StreamView → Cells → View → RefStore → List ℕ → Held
+held_with stream pool table refs out = record {
+  running = stream_in stream pool table refs;
+  tail = stream.tail;
+  out = out;
+}
+
+-- The same with a piece after its tail.
+abbrev pub with_piece : Held → List ℕ → Held
+with_piece held piece = record held { tail = extended held.tail piece }
+
 -- All that a running stream prints, and how it stands, if these bytes come after its tail.
 abbrev pub outcome_after : (List ℕ → List ℕ) → Running → Tail → List ℕ → Outcome
 outcome_after digest now tail more =
@@ -37,115 +55,99 @@ outcome_after digest now tail more =
 abbrev pub ReadsOn : Tail → List Item → Tail → Type 0
 ReadsOn old items new = (more : List ℕ) → more_of old more ≡ after_items items (more_of new more)
 
--- Items were carried out and printed these replies: whatever comes after the items, these replies
--- are the first, and the stream goes on from where the items left it.
-abbrev pub CarriesOn : (List ℕ → List ℕ) → Running → List Item → List ℕ → Running → Type 0
-CarriesOn digest now items replies next = (later : List Item) (tail : Tail)
-    → carried digest now (items ++ later) tail
-    ≡ after_reply replies (carried digest next later tail)
-
--- A stream has carried out these items, and has printed these replies.
-pub record Advances (digest : List ℕ → List ℕ) (now : Running) (old : Tail) (items : List Item)
-    (replies : List ℕ) (next : Running) (new : Tail) : Type 0 where
-  pub reads : ReadsOn old items new
-  pub carries : CarriesOn digest now items replies next
-
--- The stream is refused under this number, whatever bytes come.
-abbrev pub IsRefused : (List ℕ → List ℕ) → Running → Tail → ℕ → Type 0
-IsRefused digest now tail code =
-    (more : List ℕ) → outcome_after digest now tail more ≡ refused code now.workspace
+-- A stream has carried out these items, and has read no more: it has appended their replies to its
+-- output. Whatever comes after the items, these replies are the first, and the stream goes on from
+-- where the items left it.
+pub record HasCarriedOut (digest : List ℕ → List ℕ) (before : Held) (items : List Item)
+    (after : Held) : Type 0 where
+  pub replies : List ℕ
+  pub reads : ReadsOn before.tail items after.tail
+  pub goes_on : (later : List Item) (tail : Tail)
+      → carried digest before.running (items ++ later) tail
+      ≡ after_reply replies (carried digest after.running later tail)
+  pub printed : after.out ≡ before.out ++ replies
 
 -- No complete item is left to carry out: `done` was read, or no item is held.
 abbrev pub IsDrained : Bool → Tail → Type 0
 IsDrained true tail = Unit {0}
 IsDrained false tail = HasNoItem tail
 
--- All complete items were carried out.
-pub record Goes (digest : List ℕ → List ℕ) (now : Running) (old : Tail) (out : List ℕ)
-    (next : Running) (new : Tail) (out' : List ℕ) : Type 0 where
+-- A stream has carried out all complete items.
+pub record HasCarriedOutAll (digest : List ℕ → List ℕ) (before after : Held) : Type 0 where
   pub items : List Item
-  pub replies : List ℕ
-  pub advances : Advances digest now old items replies next new
-  pub printed : out' ≡ out ++ replies
-  pub drained : IsDrained next.is_done new
+  pub carried_out : HasCarriedOut digest before items after
+  pub drained : IsDrained after.running.is_done after.tail
 
--- A stream has carried out these items, and no more. What they print was appended to `out`, and
--- what is left has the same last checkpoint.
-pub record Ends (digest : List ℕ → List ℕ) (now : Running) (old : Tail) (out : List ℕ)
-    (items : List Item) (last : Running) (rest : Tail) (left : Running)
-    (out' : List ℕ) : Type 0 where
-  pub replies : List ℕ
-  pub advances : Advances digest now old items replies last rest
-  pub printed : out' ≡ out ++ replies
-  pub running : last.is_done ≡ false
-  pub checkpoint : last_checkpoint left.workspace ≡ last_checkpoint last.workspace
+-- A stream has carried out these items, which leave it in the middle, and it stopped there. What it
+-- stopped at printed nothing, and what is left has the same last checkpoint.
+pub record HasStoppedAfter (digest : List ℕ → List ℕ) (before : Held) (items : List Item)
+    (middle after : Held) : Type 0 where
+  pub carried_out : HasCarriedOut digest before items middle
+  pub running : middle.running.is_done ≡ false
+  pub printed : after.out ≡ middle.out
+  pub checkpoint : last_checkpoint after.running.workspace
+      ≡ last_checkpoint middle.running.workspace
 
--- Some items were carried out, and the stream is refused after them.
-pub record Fails (digest : List ℕ → List ℕ) (now : Running) (old : Tail) (out : List ℕ) (code : ℕ)
-    (left : Running) (out' : List ℕ) : Type 0 where
+-- A stream is refused under this number, whatever bytes come.
+abbrev pub IsRefused : (List ℕ → List ℕ) → Held → ℕ → Type 0
+IsRefused digest held code = (more : List ℕ)
+    → outcome_after digest held.running held.tail more ≡ refused code held.running.workspace
+
+-- A stream has carried out some items, and was refused after them.
+pub record WasRefused (digest : List ℕ → List ℕ) (before : Held) (code : ℕ) (after : Held)
+    : Type 0 where
   pub items : List Item
-  pub last : Running
-  pub rest : Tail
-  pub ends : Ends digest now old out items last rest left out'
-  pub refused : IsRefused digest last rest code
+  pub middle : Held
+  pub stopped : HasStoppedAfter digest before items middle after
+  pub refused : IsRefused digest middle code
 
--- So many items were carried out, and then memory ran out.
-pub record Stops (digest : List ℕ → List ℕ) (now : Running) (old : Tail) (out : List ℕ) (count : ℕ)
-    (left : Running) (out' : List ℕ) : Type 0 where
+-- A stream has carried out so many items, and then memory ran out.
+pub record RanOutAfter (digest : List ℕ → List ℕ) (before : Held) (count : ℕ) (after : Held)
+    : Type 0 where
   pub items : List Item
-  pub last : Running
-  pub rest : Tail
-  pub ends : Ends digest now old out items last rest left out'
+  pub middle : Held
+  pub stopped : HasStoppedAfter digest before items middle after
   pub counted : length items ≡ count
 
--- What came of the bytes of a tail, by the answer.
-abbrev pub Carries : (List ℕ → List ℕ) → Running → Tail → List ℕ → Result Unit StreamError
-    → Running → Tail → List ℕ → Type 0
-Carries digest now old out (Ok u) next new out' = Goes digest now old out next new out'
-Carries digest now old out (Err (stop.Fault code)) next new out' =
-    Fails digest now old out code next out'
-Carries digest now old out (Err (stop.Memory count)) next new out' =
-    Stops digest now old out count next out'
+-- What came of the bytes that a stream holds, by the answer.
+abbrev pub Carries : (List ℕ → List ℕ) → Held → Result Unit StreamError → Held → Type 0
+Carries digest before (Ok u) after = HasCarriedOutAll digest before after
+Carries digest before (Err (stop.Fault code)) after = WasRefused digest before code after
+Carries digest before (Err (stop.Memory count)) after = RanOutAfter digest before count after
 
--- Nothing happened to a stream, which had read `done`.
-pub record Stays (now : Running) (old : Tail) (out : List ℕ) (result : Result Unit StreamError)
-    (next : Running) (new : Tail) (out' : List ℕ) : Type 0 where
-  pub answer : result ≡ Ok tt
-  pub running : next ≡ now
-  pub tail : new ≡ old
-  pub printed : out' ≡ out
+-- What came of a piece. After `done` its bytes are ignored.
+pub record Feeds (digest : List ℕ → List ℕ) (before : Held) (piece : List ℕ)
+    (result : Result Unit StreamError) (after : Held) : Type 0 where
+  pub ignored : before.running.is_done ≡ true → (result ≡ Ok tt) × (after ≡ before)
+  pub taken : before.running.is_done ≡ false
+      → Carries digest (with_piece before piece) result after
 
--- What came of a piece, by the answer. After `done` bytes are ignored.
-abbrev pub Feeds : (List ℕ → List ℕ) → Bool → Running → Tail → List ℕ → List ℕ
-    → Result Unit StreamError → Running → Tail → List ℕ → Type 0
-Feeds digest true now old piece out result next new out' = Stays now old out result next new out'
-Feeds digest false now old piece out result next new out' =
-    Carries digest now (extended old piece) out result next new out'
+-- How a stream ends if no more bytes come.
+abbrev pub stream_end : (List ℕ → List ℕ) → Held → End
+stream_end digest held = finished digest (Runs held.running held.tail)
 
--- The end of a stream was answered: its reply was appended to `out`, and its repository is left.
-pub record IsEnd (end : End) (fault : Option ℕ) (out : List ℕ) (left : Repository)
-    (out' : List ℕ) : Type 0 where
-  pub answered : end.fault ≡ fault
-  pub printed : out' ≡ out ++ end.reply
-  pub stands : end.repository ≡ left
+-- The end of a stream was answered by this fault or by none. Its reply was appended to the output,
+-- and its repository is left.
+pub record HasEnded (digest : List ℕ → List ℕ) (before : Held) (fault : Option ℕ)
+    (left : Repository) (out : List ℕ) : Type 0 where
+  pub answered : (stream_end digest before).fault ≡ fault
+  pub printed : out ≡ before.out ++ (stream_end digest before).reply
+  pub stands : (stream_end digest before).repository ≡ left
 
 -- Memory ran out at the end of a stream that had not read `done`: nothing of its end took effect.
-pub record StopsAtEnd (now : Running) (out : List ℕ) (count : ℕ) (left : Repository)
-    (out' : List ℕ) : Type 0 where
-  pub running : now.is_done ≡ false
+pub record RanOutAtEnd (before : Held) (count : ℕ) (left : Repository) (out : List ℕ)
+    : Type 0 where
+  pub running : before.running.is_done ≡ false
   pub counted : count ≡ 0
-  pub printed : out' ≡ out
-  pub stands : last_checkpoint now.workspace ≡ left
+  pub printed : out ≡ before.out
+  pub stands : last_checkpoint before.running.workspace ≡ left
 
 -- How a stream ended, by the answer.
-abbrev pub EndsAs : (List ℕ → List ℕ) → Running → Tail → List ℕ → Result Unit StreamError
-    → Repository → List ℕ → Type 0
-EndsAs digest now tail out (Ok u) left out' =
-    IsEnd (finished digest (Runs now tail)) None out left out'
-EndsAs digest now tail out (Err (stop.Fault code)) left out' =
-    IsEnd (finished digest (Runs now tail)) (Some code) out left out'
-EndsAs digest now tail out (Err (stop.Memory count)) left out' =
-    StopsAtEnd now out count left out'
+abbrev pub EndsAs : (List ℕ → List ℕ) → Held → Result Unit StreamError → Repository → List ℕ
+    → Type 0
+EndsAs digest before (Ok u) left out = HasEnded digest before None left out
+EndsAs digest before (Err (stop.Fault code)) left out = HasEnded digest before (Some code) left out
+EndsAs digest before (Err (stop.Memory count)) left out = RanOutAtEnd before count left out
 
 -- All objects of a table are committed.
 abbrev pub IsCommitted : View → Type 0

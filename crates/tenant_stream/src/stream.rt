@@ -7,11 +7,11 @@
 ghost use Rattle.std.specs.Prelude.{◌≡◌, false, OnErr, OnOk};
 ghost use Rattle.tenant_tables.specs.IsBackedBy.{IsBackedBy};
 ghost use Rattle.stream_commands.specs.Lent.{Keeps};
-ghost use Rattle.import_session.specs.Session.{running_in, repository_in, last_in};
+ghost use Rattle.import_session.specs.Session.{repository_in, last_in};
 ghost use Rattle.stream_commands.specs.Held.{FilesStand};
 ghost use Rattle.import_session.specs.Sound.{IsSound, IsSoundRepository};
 ghost use Rattle.tenant_stream.specs.Stopping.{unfed};
-ghost use Rattle.tenant_stream.specs.Carrying.{new_stream, stream_in, Carries, Feeds, EndsAs, HasAmpleHoldsLeft, IsCommitted};
+ghost use Rattle.tenant_stream.specs.Carrying.{new_stream, stream_in, held_with, Carries, Feeds, EndsAs, HasAmpleHoldsLeft, IsCommitted};
 ghost use Rattle.tenant_stream.specs.Soundness.{LeavesSound};
 
 use crate::stream_error::{StreamError, stop_of};
@@ -39,10 +39,11 @@ fn carry<N: Naming>(
     requires running { session.old.is_done ≡ false }
     ensures keeps { Keeps N.digest_of pool.old table.old pool.new table.new }
     ensures held { OnOk result (FilesStand session.new.state pool.new table.new) }
-    ensures carries { let now = running_in session.old pool.old table.old refs.old in
-        IsSound N.digest_of now.workspace
-        → Carries N.digest_of now lexer.old.tail out.old.items result
-        (running_in session.new pool.new table.new refs.new) lexer.new.tail out.new.items }
+    ensures carries { let before = held_with (record { session = session.old; tail = lexer.old.tail })
+        pool.old table.old refs.old out.old.items in
+        IsSound N.digest_of before.running.workspace → Carries N.digest_of before result
+        (held_with (record { session = session.new; tail = lexer.new.tail })
+        pool.new table.new refs.new out.new.items) }
 {
     let _most = lexer.held();
     let mut count = 0;
@@ -86,9 +87,9 @@ fn end<N: Naming>(
     requires room { HasAmpleHoldsLeft pool.old }
     requires held { FilesStand session.old.state pool.old table.old }
     ensures keeps { Keeps N.digest_of pool.old table.old pool.new table.new }
-    ensures ended { let now = running_in session.old pool.old table.old refs.old in
-        IsSound N.digest_of now.workspace
-        → EndsAs N.digest_of now lexer.now.tail out.old.items result
+    ensures ended { let before = held_with (record { session = session.old; tail = lexer.now.tail })
+        pool.old table.old refs.old out.old.items in
+        IsSound N.digest_of before.running.workspace → EndsAs N.digest_of before result
         (last_in pool.new table.new refs.new) out.new.items }
     ensures printed { OnErr result (out.new.items ≡ out.old.items) }
 {
@@ -161,10 +162,9 @@ impl Stream {
         requires held { FilesStand self.old.session.state pool.old table.old }
         ensures keeps { Keeps N.digest_of pool.old table.old pool.new table.new }
         ensures held { OnOk result (FilesStand self.new.session.state pool.new table.new) }
-        ensures feeds { let now = stream_in self.old pool.old table.old refs.old in
-            IsSound N.digest_of now.workspace
-            → Feeds N.digest_of self.old.session.is_done now self.old.tail piece.now out.old.items
-            result (stream_in self.new pool.new table.new refs.new) self.new.tail out.new.items }
+        ensures feeds { let before = held_with self.old pool.old table.old refs.old out.old.items in
+            IsSound N.digest_of before.running.workspace → Feeds N.digest_of before piece.now result
+            (held_with self.new pool.new table.new refs.new out.new.items) }
         ensures sound { let now = stream_in self.old pool.old table.old refs.old in
             IsSound N.digest_of now.workspace → LeavesSound N.digest_of result
             (stream_in self.new pool.new table.new refs.new).workspace }
@@ -196,9 +196,8 @@ impl Stream {
         requires room { HasAmpleHoldsLeft pool.old }
         requires held { FilesStand self.session.state pool.old table.old }
         ensures keeps { Keeps N.digest_of pool.old table.old pool.new table.new }
-        ensures ended { let now = stream_in self pool.old table.old refs.old in
-            IsSound N.digest_of now.workspace
-            → EndsAs N.digest_of now self.tail out.old.items result
+        ensures ended { let before = held_with self pool.old table.old refs.old out.old.items in
+            IsSound N.digest_of before.running.workspace → EndsAs N.digest_of before result
             (repository_in pool.new table.new refs.new) out.new.items }
         ensures sound { let now = stream_in self pool.old table.old refs.old in
             IsSound N.digest_of now.workspace

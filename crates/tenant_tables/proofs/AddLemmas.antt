@@ -9,6 +9,8 @@ use Rattle.std.proofs.lemmas.Slice.Eq.{bytes_eq-Decides}
 use Rattle.git_model.specs.Content.{Content, name_by}
 use Rattle.content_pool.specs.Pool.{Cells, content, IsLive}
 use Rattle.git_model.specs.Kind.{kind_word}
+use Rattle.git_model.specs.TagReading.{kind_named_by}
+use Rattle.git_model.proofs.TagReadings.{kind_back}
 use Rattle.git_model.specs.declared.kind.Kind.{Kind}
 use Rattle.git_model.specs.declared.kind.Kind.TheVariants.{Commit, Tree, Blob, Tag}
 use Rattle.git_model.specs.contracts.kind.Kind.{the_type}
@@ -245,22 +247,8 @@ pushed digest id c summary p old q new slot h named none stands summed within = 
 -- ---- an object that is there
 
 kinds : (a b : Kind) → bytes_eq (kind_word a) (kind_word b) ≡ true → a ≡ b
-kinds Commit Commit h = refl
-kinds Commit Tree h = cc h
-kinds Commit Blob h = cc h
-kinds Commit Tag h = cc h
-kinds Tree Commit h = cc h
-kinds Tree Tree h = refl
-kinds Tree Blob h = cc h
-kinds Tree Tag h = cc h
-kinds Blob Commit h = cc h
-kinds Blob Tree h = cc h
-kinds Blob Blob h = refl
-kinds Blob Tag h = cc h
-kinds Tag Commit h = cc h
-kinds Tag Tree h = cc h
-kinds Tag Blob h = cc h
-kinds Tag Tag h = refl
+kinds a b h =
+    sym (kind_back a) ∙ ap kind_named_by ((bytes_eq-Decides (kind_word a) (kind_word b)).0 h) ∙ kind_back b
 
 contents : (c d : Content) → same_content c d ≡ true → c ≡ d
 contents c d h =

@@ -1,8 +1,7 @@
 -- The objects at some places of a table, added to an empty one in turn.
 use Rattle.std.proofs.Common.{◌≡◌, ◌≢◌, ℕ, zero, suc, ◌+◌, ◌-◌, ◌<◌, ◌≤◌, Bool, true, false, cond, nat_lt, List, [], ◌∷◌, ◌++◌, length, take, get_or, slice_get, map, All, Option, Some, None, Result, Ok, Err, refl, sym, ap, subst, ◌∙◌, inl, inr, arith}
 use Rattle.std.specs.Prelude.{IfOk, IsSome, IsSomeAnd, fold, is_some}
-use Rattle.std.specs.List.{AllByRecursion, IsDistinct, position_or_len}
-use Rattle.std.specs.Map.{keys_of, lookup}
+use Rattle.std.specs.List.{AllByRecursion, IsDistinct}
 use Rattle.std.specs.Option.{option_and_then, option_map, unwrap_or}
 use Rattle.std.specs.Str.{bytes_eq}
 use Rattle.std.proofs.lemmas.Bool.{cases_Bool, cases_eq}
@@ -35,9 +34,8 @@ use Rattle.tenant_tables.specs.Sharing.{Shares}
 use Rattle.tenant_tables.specs.Trees.{DirectoryStands, FitsTree, IsSummed, IsTreeOf, SummedAfter, both, by_mode, below, entry_summary, no_files, one_file}
 use Rattle.tenant_tables.specs.View.{Entries, View, entry_named, names, summary_of}
 use Rattle.tenant_tables.proofs.AddLemmas.{no_entry}
-use Rattle.tenant_tables.proofs.EntryLemmas.{lookup-take}
 use Rattle.tenant_tables.proofs.HoldLemmas.{held-at, held-nil}
-use Rattle.tenant_tables.proofs.SummaryLemmas.{some_of}
+use Rattle.tenant_tables.proofs.SummaryLemmas.{some_of, summary_of-take}
 use Rattle.tenant_tables.proofs.TableLemmas.{IsBackedBy-nil, PreservesOthers-refl, PreservesOthers-then, length-objects}
 use Rattle.tenant_tables.specs.Copied.{IsCopied, objects_at}
 
@@ -143,17 +141,6 @@ module _ (digest : List ℕ → List ℕ) (os : List Object) (good : AreObjects 
       (subst (λ (k : Kind). All (StandsBefore os i) (references_of k c.bytes)) tree all))
 
 -- ---- the summary of a tree, by what two tables have of its directories
-
-summary_of-take : (n : ℕ) (es : Entries) (id : List ℕ) → IsSome (summary_of id (take n es))
-    → summary_of id (take n es) ≡ summary_of id es
-unfolding entry_named
-summary_of-take n es id some =
-    by (nat_lt (position_or_len (bytes_eq id) (keys_of es)) n) (lookup-take (bytes_eq id) n es)
-  where
-    by : (b : Bool) → lookup (bytes_eq id) (take n es) ≡ cond b (lookup (bytes_eq id) es) None
-        → summary_of id (take n es) ≡ summary_of id es
-    by true e = ap (option_and_then (λ (x : Entry). x.summary)) e
-    by false e = let none : false ≡ true = rw e at some in cc none
 
 module _ (a b : Entries) where
   abbrev Agree : TreeEntry → Type 0

@@ -1,5 +1,5 @@
 -- What a table has in sight stands in the pool as all its objects do.
-use Rattle.std.proofs.Common.{◌≡◌, ℕ, Bool, true, false, ◌≤◌, cond, nat_lt, List, [], ◌∷◌, map, take, length, Option, Some, None, refl, ◌∙◌, ap}
+use Rattle.std.proofs.Common.{◌≡◌, ℕ, Bool, true, false, cond, nat_lt, List, [], ◌∷◌, map, take, length, Option, Some, None, refl, sym, ◌∙◌, ap}
 use Rattle.std.specs.Str.{bytes_eq}
 use Rattle.std.specs.Map.{keys_of, lookup}
 use Rattle.std.specs.Option.{option_map}
@@ -15,7 +15,6 @@ use Rattle.tenant_tables.specs.IsBackedBy.{IsBackedBy}
 use Rattle.tenant_tables.proofs.AddLemmas.{found_live}
 use Rattle.tenant_tables.proofs.EntryLemmas.{lookup-take}
 use Rattle.tenant_tables.proofs.TableLemmas.{length-objects}
-use Rattle.std.proofs.lemmas.List.{length-take-le}
 
 -- what is found among the first entries is found among all
 among_all : (n : ℕ) (id : List ℕ) (es : Entries) (s : ℕ) → Some s ≡ slot_of id (take n es)
@@ -40,18 +39,15 @@ slot_live digest p sight.Committed table id s stands h =
 
 -- ---- their number and their names
 
-pub number_all : (p : Cells) (look : Sight) (table : View) → look ≡ sight.All
-    → length (objects p (in_sight look table)) ≡ length table.entries
-number_all p look table e = rw e (length-objects p table.entries)
+pub number_seen : (p : Cells) (es : Entries) (os : List Object) → objects p es ≡ os
+    → length es ≡ length os
+number_seen p es os are = sym (length-objects p es) ∙ ap (λ (xs : List Object). length xs) are
 
-pub number_committed : (p : Cells) (look : Sight) (table : View) → look ≡ sight.Committed
-    → table.committed ≤ length table.entries
-    → length (objects p (in_sight look table)) ≡ table.committed
-number_committed p look table e within =
-    rw e (length-objects p (take table.committed table.entries)
-    ∙ length-take-le table.committed table.entries within)
-
-pub names_seen : (p : Cells) (es : Entries) → map (λ (o : Object). o.id) (objects p es) ≡ names es
+names_of : (p : Cells) (es : Entries) → map (λ (o : Object). o.id) (objects p es) ≡ names es
 unfolding objects
-names_seen p [] = refl
-names_seen p (e ∷ es) = ap (λ (ids : List (List ℕ)). e.0 ∷ ids) (names_seen p es)
+names_of p [] = refl
+names_of p (e ∷ es) = ap (λ (ids : List (List ℕ)). e.0 ∷ ids) (names_of p es)
+
+pub names_seen : (p : Cells) (es : Entries) (os : List Object) → objects p es ≡ os
+    → names es ≡ map (λ o. o.id) os
+names_seen p es os are = sym (names_of p es) ∙ ap (map (λ (o : Object). o.id)) are

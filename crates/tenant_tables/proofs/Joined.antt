@@ -12,7 +12,7 @@ use Rattle.std.proofs.lemmas.Map.Keys.{IsDistinct-head, IsDistinct-push, IsDisti
 use Rattle.tenant_tables.specs.declared.entry.Entry.{Entry}
 use Rattle.tenant_tables.specs.declared.table.TheConstants.{OBJECTS_LIMIT}
 use Rattle.tenant_tables.specs.Index.{IsTable}
-use Rattle.tenant_tables.specs.View.{Entries, names, entry_named}
+use Rattle.tenant_tables.specs.View.{View, Entries, names, entry_named}
 use Rattle.tenant_tables.proofs.EntryLemmas.{lookup-take-found, lookup-take-none, position-kept, position-nowhere, position-past}
 use Rattle.tenant_tables.proofs.FoundLemmas.{any-names, distinct-take, same_name}
 use Rattle.tenant_tables.proofs.IndexLemmas.{later, names-push}
@@ -269,11 +269,12 @@ grown_front es list new x are at is =
     ∙ ap (λ (k : ℕ). take k es) one
 
 -- a name that no entry has is not that of an own one
-pub new_own : (id : List ℕ) (front own es : Entries) → front ++ own ≡ es
-    → entry_named id es ≡ None → entry_named id own ≡ None
-new_own id front own es is none =
+pub new_own : (id : List ℕ) (front own : Entries) (committed : ℕ) (t : View)
+    → ◌≡◌ {A = View} (record { entries = front ++ own; committed = committed }) t
+    → entry_named id t.entries ≡ None → entry_named id own ≡ None
+new_own id front own committed t is none =
     later-none (entry_named id front) (entry_named id own)
-    (sym (entry_named-append id front own) ∙ ap (entry_named id) is ∙ none)
+    (sym (entry_named-append id front own) ∙ ap (λ (v : View). entry_named id v.entries) is ∙ none)
 
 -- ---- distinct names
 
@@ -327,20 +328,23 @@ IsTable-nil = record {
   distinct = tt;
 }
 
-pub IsTable-push : (front own : Entries) (committed : ℕ) (id : List ℕ) (e : Entry)
-    → IsTable front own committed → length (front ++ own) < OBJECTS_LIMIT
-    → entry_named id (front ++ own) ≡ None → IsTable front (own ++ (id, e) ∷ []) committed
-IsTable-push front own committed id e h spare none =
+pub IsTable-push : (front own : Entries) (committed : ℕ) (id : List ℕ) (e : Entry) (t : View)
+    → ◌≡◌ {A = View} (record { entries = front ++ own; committed = committed }) t
+    → IsTable front own committed → length t.entries < OBJECTS_LIMIT
+    → entry_named id t.entries ≡ None → IsTable front (own ++ (id, e) ∷ []) committed
+IsTable-push front own committed id e t is h spare none =
     let joined = append_assoc front own ((id, e) ∷ []) in
+    let size = ap (λ (v : View). length v.entries) is in
     let len = length-append (front ++ own) ((id, e) ∷ []) in record {
       shared = h.shared;
       within =
           subst (λ (es : Entries). committed ≤ length es) joined (let w = h.within in omega (arith, len));
       limited =
-          subst (λ (es : Entries). length es ≤ OBJECTS_LIMIT) joined (omega (arith, len));
+          subst (λ (es : Entries). length es ≤ OBJECTS_LIMIT) joined (omega (arith, len, size));
       distinct =
           subst (λ (es : Entries). IsDistinct bytes_eq (names es)) joined
-          (distinct-push (front ++ own) id e h.distinct none);
+          (distinct-push (front ++ own) id e h.distinct
+          (ap (λ (v : View). entry_named id v.entries) is ∙ none));
     }
 
 pub IsTable-commit : (front own : Entries) (committed : ℕ) → IsTable front own committed

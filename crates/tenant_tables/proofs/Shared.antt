@@ -42,33 +42,22 @@ pub record Seen (front own : Entries) (n : ℕ) (es : Entries) : Type 0 where
   pub shared : length front ≤ n
   pub are : take n (front ++ own) ≡ es
 
-pub seen_all : (t : View) (s : Sight) (front own : Entries) (committed n : ℕ)
-    → IsTable front own committed
+pub seen : (t : View) (s : Sight) (front own : Entries) (committed n : ℕ) → IsTable front own committed
     → ◌≡◌ {A = View} (record { entries = front ++ own; committed = committed }) t
-    → s ≡ sight.All → n ≡ length t.entries → Seen front own n (in_sight s t)
-seen_all t s front own committed n h is all size =
-    let here : front ++ own ≡ t.entries = ap (λ (v : View). v.entries) is in
-    let same : length (front ++ own) ≡ length t.entries = ap (λ (es : Entries). length es) here in
-    let begun_by = h.shared in
-    let within = h.within in record {
-      shared = omega (arith, same, begun_by, within, size);
-      are =
-          ap (λ (k : ℕ). take k (front ++ own)) size
-          ∙ ap (λ (es : Entries). take (length t.entries) es) here ∙ take-length t.entries
-          ∙ sym (ap (λ (x : Sight). in_sight x t) all);
+    → n ≡ length (in_sight s t) → Seen front own n (in_sight s t)
+seen t sight.All front own committed n h is size =
+    let all = ap (λ (v : View). length v.entries) is in
+    let begun_by = h.shared in let within = h.within in record {
+      shared = omega (arith, all, begun_by, within, size);
+      are = ap (λ (v : View). take n v.entries) is ∙ take_all n t.entries (omega (arith, size));
     }
-
-pub seen_committed : (t : View) (s : Sight) (front own : Entries) (committed n : ℕ)
-    → IsTable front own committed
-    → ◌≡◌ {A = View} (record { entries = front ++ own; committed = committed }) t
-    → s ≡ sight.Committed → n ≡ committed → Seen front own n (in_sight s t)
-seen_committed t s front own committed n h is chosen size =
+seen t sight.Committed front own committed n h is size =
+    let all = ap (λ (v : View). length v.entries) is in
+    let first = ap (λ (v : View). v.committed) is in
+    let few = length-take-le t.committed t.entries (let w = h.within in omega (arith, w, all, first)) in
     let begun_by = h.shared in record {
-      shared = omega (arith, begun_by, size);
-      are =
-          ap (λ (k : ℕ). take k (front ++ own)) size
-          ∙ ap (λ (v : View). take v.committed v.entries) is
-          ∙ sym (ap (λ (x : Sight). in_sight x t) chosen);
+      shared = omega (arith, begun_by, few, first, size);
+      are = ap (λ (v : View). take n v.entries) is ∙ ap (λ (k : ℕ). take k t.entries) (size ∙ few);
     }
 
 -- ---- the first entries
@@ -104,13 +93,32 @@ pub same_view : (m n : ℕ) (es fs : Entries) → es ≡ fs → m ≡ n
     → ◌≡◌ {A = View} (record { entries = es; committed = m }) (record { entries = fs; committed = n })
 same_view m n es fs is size = λ i. record { entries = is i; committed = size i }
 
-pub first_size : (n : ℕ) (front own f o : Entries) → n ≤ length (front ++ own) → f ≡ take n front
-    → o ≡ take (n - length f) own → length f + length o ≡ n
-first_size n front own f o within is rest =
-    let joined : f ++ o ≡ take n (front ++ own) =
-    ap (λ (es : Entries). f ++ es) rest ∙ first_are n front own f is in
-    sym (length-append f o) ∙ ap (λ (es : Entries). length es) joined
-    ∙ length-take-le n (front ++ own) within
+-- Some of the shared entries and some of the others are the first of a table.
+pub record AreFirst (n : ℕ) (front own f : Entries) (o : View) (t : View) : Type 0 where
+  pub table : IsTable f o.entries (length f + o.committed)
+  pub view : ◌≡◌ {A = View} (record { entries = f ++ o.entries; committed = length f + o.committed })
+      (record { entries = take n t.entries; committed = n })
+
+pub are_first : (n m committed : ℕ) (front own f : Entries) (o t : View)
+    → ◌≡◌ {A = View} (record { entries = front ++ own; committed = committed }) t
+    → IsTable front own committed → n ≤ length t.entries → f ≡ take n front → m ≡ length f
+    → o ≡ record { entries = take (n - m) own; committed = length (take (n - m) own) }
+    → AreFirst n front own f o t
+are_first n m committed front own f o t is h few fronts len rest =
+    let seen = ap (λ (v : View). v.entries) is in
+    let within : n ≤ length (front ++ own) = rw seen few in
+    let own_are : o.entries ≡ take (n - length f) own =
+    ap (λ (v : View). v.entries) rest ∙ ap (λ (k : ℕ). take (n - k) own) len in
+    let joined = ap (λ (es : Entries). f ++ es) own_are ∙ first_are n front own f fronts in
+    let size : length f + o.committed ≡ n =
+    ap (λ (k : ℕ). length f + k) (ap (λ (v : View). v.committed) rest ∙ sym (ap (λ (v : View). length v.entries) rest))
+    ∙ sym (length-append f o.entries) ∙ ap (λ (es : Entries). length es) joined
+    ∙ length-take-le n (front ++ own) within in record {
+      table =
+          subst (IsTable f o.entries) (sym size)
+          (IsTable-first n front own f o.entries committed h within fronts own_are);
+      view = same_view _ _ _ _ (joined ∙ ap (λ (es : Entries). take n es) seen) size;
+    }
 
 -- ---- holds
 

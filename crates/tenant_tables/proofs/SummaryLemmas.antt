@@ -97,7 +97,7 @@ entry_summary-same Symlink a b f h = refl
 entry_summary-same Gitlink a b f h = refl
 
 -- the summaries that a prefix has are those of the whole
-summary_of-take : (n : ℕ) (es : Entries) (id : List ℕ) → IsSome (summary_of id (take n es))
+pub summary_of-take : (n : ℕ) (es : Entries) (id : List ℕ) → IsSome (summary_of id (take n es))
     → summary_of id (take n es) ≡ summary_of id es
 unfolding entry_named
 summary_of-take n es id some =

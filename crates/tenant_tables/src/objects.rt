@@ -83,10 +83,7 @@ impl<'a, N: Naming> Objects<'a, N> {
     pub fn len(&self) -> usize
         ensures { result ≡ length self.now }
     {
-        match self.sight {
-            Sight::All => self.table.len(),
-            Sight::Committed => self.table.committed_len(),
-        }
+        self.table.len_in_sight(self.sight)
     }
 
     /// Looks up an abbreviated object name: `Found::One` if exactly one name begins with these

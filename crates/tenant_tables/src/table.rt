@@ -188,6 +188,16 @@ impl Table {
         self.front.len() + self.own.committed_len()
     }
 
+    /// How many of them are in sight.
+    pub(crate) fn len_in_sight(&self, sight: Sight) -> usize
+        ensures { result ≡ length (in_sight sight self.now) }
+    {
+        match sight {
+            Sight::All => self.len(),
+            Sight::Committed => self.committed_len(),
+        }
+    }
+
     /// Looks up an abbreviated object name: `Found::One` if exactly one name in sight begins with
     /// these hexadecimal digits of either case.
     ///
@@ -196,10 +206,7 @@ impl Table {
     pub fn starting_with(&self, digits: &[u8], sight: Sight) -> Found
         ensures { result ≡ found_among digits.now (names (in_sight sight self.now)) }
     {
-        let seen = match sight {
-            Sight::All => self.len(),
-            Sight::Committed => self.committed_len(),
-        };
+        let seen = self.len_in_sight(sight);
         let shared = self.front.starting_with(digits);
         both(
             shared,
@@ -212,10 +219,7 @@ impl Table {
     pub fn most_shared(&self, id: &Name, sight: Sight) -> usize
         ensures { result ≡ most_shared id.now (names (in_sight sight self.now)) }
     {
-        let seen = match sight {
-            Sight::All => self.len(),
-            Sight::Committed => self.committed_len(),
-        };
+        let seen = self.len_in_sight(sight);
         let shared = self.front.most_shared(id);
         shared.max(self.own.most_shared(id, seen - self.front.len()))
     }

@@ -13,7 +13,7 @@ use Rattle.file_maps.proofs.Maps.{listed-of, retain_keys-of}
 use Rattle.tree_build.specs.Shape.{What, file, unopened, opened, Shape, Held, shape_files, held_files}
 use Rattle.tree_build.specs.Branch.{Branch, root_files, files_in, slash_after, IsDirectory, IsHeld, IsBranch, closed_along}
 use Rattle.tree_build.specs.Editing.{new_directory, dropped, taken}
-use Rattle.tree_build.specs.Opened.{OpensHeld, is_kept}
+use Rattle.tree_build.specs.Opened.{OpensHeld, recounted, is_kept}
 use Rattle.tree_build.proofs.Ordered.{branch_listed}
 use Rattle.tree_build.proofs.Mapped.{kept_map}
 use Rattle.tree_build.proofs.Dropped.{dropped_shape, dropped_count, dropped_look}
@@ -101,6 +101,20 @@ module _ (os : List Object) where
         let n = dropped_count os clear path inside sound.1 shut some in
         let m : old.files ≡ length (shape_files (stored_files os) inside) = b.counted ∙ ap (λ (h : Held). length (held_files (stored_files os) h)) is in
         omega arith
+
+-- ---- the number of files put right
+
+pub recount : (os : List Object) (b : Branch) → IsBranch os b → (files reads : ℕ)
+    → IsBranch os (recounted os (record { root = b.root; files = files; reads = reads }))
+recount os b h files reads = record {
+  directory = h.directory;
+  held = h.held;
+  counted = refl;
+  files =
+      subst (λ (m : FileMap). AreFiles (listed m))
+      (sym (opened_files os b (recounted os (record { root = b.root; files = files; reads = reads })) refl))
+      h.files;
+}
 
 -- ---- the root
 

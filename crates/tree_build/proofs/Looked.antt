@@ -22,7 +22,7 @@ use Rattle.tree_build.specs.Standing.{stands_at}
 use Rattle.tree_build.specs.Stores.{parts_of}
 use Rattle.tree_build.proofs.Held.{spread-parts, are-parts}
 use Rattle.tree_build.proofs.Look.{not_bytes, turn_bytes}
-use Rattle.tree_build.proofs.Named.{shape_lacks, not_found}
+use Rattle.tree_build.proofs.Named.{name_lacks}
 use Rattle.tree_build.proofs.Places.{Entries, part-at, parts-length}
 use Rattle.tree_build.proofs.Inside.{no-root}
 use Rattle.tree_build.proofs.Rows.{no_file}
@@ -69,7 +69,7 @@ module _ (digest : List ℕ → List ℕ) (os : List Object) (es : Entries) (sou
   nothing-there is =
       sym (below
       ∙ ap (λ (l : Listed). stands_at digest l rest)
-      (part-none k (shape_of es) c (shape_lacks c es (not_found (has_name c) es is)).0))
+      (part-none k (shape_of es) c (name_lacks c es is).0))
 
   pub held-there : (i : ℕ) (x : List ℕ × Node) → position (has_name c) es ≡ Some i → x ≡ get_or es i x
       → stands_at digest (held_files k (held x.1)) rest ≡ stands_at digest (shape_files k (shape_of es)) (c ∷ rest)
@@ -95,7 +95,7 @@ module _ (os : List Object) (es : Entries) (sound : IsShape os (shape_of es)) (c
   pub cut-nothing : position (has_name c) es ≡ None → cut (c ∷ rest) (shape_files (stored_files os) (shape_of es)) ≡ []
   cut-nothing is =
       cut-part
-      ∙ ap (cut rest) (part-none (stored_files os) (shape_of es) c (shape_lacks c es (not_found (has_name c) es is)).0)
+      ∙ ap (cut rest) (part-none (stored_files os) (shape_of es) c (name_lacks c es is).0)
 
   pub cut-there : (i : ℕ) (x : List ℕ × Node) → position (has_name c) es ≡ Some i → x ≡ get_or es i x
       → cut (c ∷ rest) (shape_files (stored_files os) (shape_of es)) ≡ cut rest (held_files (stored_files os) (held x.1))

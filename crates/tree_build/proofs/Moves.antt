@@ -187,18 +187,20 @@ good-rest m from h = kept_files m (is_outside from) h
 -- ---- copies
 
 -- an error is another where it says another fault
-pub another : {T : Type 0} (e : Fault) → e ≢ fault.Memory
+another : {T : Type 0} (e : Fault) → e ≢ fault.Memory
     → ◌≢◌ {A = Result T Fault} (Err e) (Err fault.Memory)
 another e ne is = ne (cc is)
 
-pub refused : {A : Type 0} (r : Result A Fault) (e : Fault) → r ≡ Err e
-    → (old new : FileMap) (fs : Listed) (after : FileMap)
-    → (e ≢ fault.Memory → (path_fault fs ≡ Some e) × (new ≡ old))
+pub refused : {A T : Type 0} (r : Result A Fault) (e : Fault) → r ≡ Err e
+    → (old new : FileMap) (fs : Listed) (after : FileMap) → (e ≢ fault.Memory → path_fault fs ≡ Some e)
+    → (◌≢◌ {A = Result T Fault} (Err e) (Err fault.Memory) → new ≡ old)
     → Edits r old new (move_fault fs after) after
-refused {A = A} r e is old new fs after h =
+refused {A = A} {T = T} r e is old new fs after refusal same =
     subst (λ (x : Result A Fault). Edits x old new (move_fault fs after) after) (sym is)
-    (λ memory. let k = h memory in
-    (move_fault-is fs after ∙ ap (λ (o : Option Fault). or_many o (finmap.len after)) k.0, k.1))
+    (λ memory. (
+      move_fault-is fs after ∙ ap (λ (o : Option Fault). or_many o (finmap.len after)) (refusal memory),
+      same (another {T = T} e memory),
+    ))
 
 pub clean-move : (fs : Listed) (after : FileMap) → path_fault fs ≡ None
     → move_fault fs after ≡ too_many (finmap.len after)

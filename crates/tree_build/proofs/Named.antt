@@ -6,6 +6,7 @@ use Rattle.std.proofs.lemmas.Bool.{ne_eqb}
 use Rattle.std.specs.Prelude.{Option, None, Some, length, position, slice_index_or, slice_set, eqb}
 use Rattle.std.specs.List.{insert, remove, position_or_len}
 use Rattle.git_paths.proofs.Cases.{by_cases}
+use Rattle.tenant_tables.proofs.EntryLemmas.{position-found}
 use Rattle.file_maps.specs.FileMap.{Path}
 use Rattle.tree_build.specs.declared.dir.Node.{Node}
 use Rattle.tree_build.specs.declared.dir.Node.TheVariants.{File, Unopened, Opened}
@@ -126,6 +127,33 @@ pub entry_is : (xs : Rows) (k : ℕ) (n : Node) → k < length xs → n ≡ (sli
 entry_is xs k n lt is =
     ap (λ (m : Node). ((slice_index_or xs k ([], n)).0, m)) is
     ∙ get_or_default xs k ([], n) (entry_here xs k n) lt
+
+-- What is known of the entry at the place where a name was found: what stands under the name, and
+-- the directory in which another node takes its place.
+pub record IsFound (c : List ℕ) (xs : Rows) (at : ℕ) (y : List ℕ × Node) : Type 0 where
+  pub within : at < length xs
+  pub first : position_or_len (has_name c) xs ≡ at
+  pub is : y ≡ slice_index_or xs at y
+  pub stands : child (shape_of xs) c ≡ Some (held y.1)
+  pub set : (n : Node) → shape_of (slice_set xs at (y.0, n)) ≡ changed (shape_of xs) c (held n)
+
+pub entry_found : (c : List ℕ) (xs : Rows) (at : ℕ) → position (has_name c) xs ≡ Some at
+    → (y : List ℕ × Node) → y ≡ slice_index_or xs at y → IsFound c xs at y
+entry_found c xs at is y here =
+    let within = found_within (has_name c) xs at is in
+    let first = position-found (has_name c) xs at is in
+    let found = shape_found c xs at first within y (sym here) in
+    record { within = within; first = first; is = here; stands = found.0; set = found.1 }
+
+pub node_found : (c : List ℕ) (xs : Rows) (at : ℕ) → position (has_name c) xs ≡ Some at
+    → (n : Node) → n ≡ (slice_index_or xs at ([], n)).1 → IsFound c xs at (entry_here xs at n)
+node_found c xs at is n here =
+    entry_found c xs at is (entry_here xs at n) (entry_is xs at n (found_within (has_name c) xs at is) here)
+
+-- where it was not found, nothing stands under it
+pub name_lacks : (c : List ℕ) (xs : Rows) → position (has_name c) xs ≡ None
+    → (child (shape_of xs) c ≡ None) × (removed (shape_of xs) c ≡ shape_of xs)
+name_lacks c xs is = shape_lacks c xs (not_found (has_name c) xs is)
 
 -- no opened directory
 pub not_opened : (n : Node) → ((d : Directory) → n ≡ Opened d → ⊥) → is_opened (held n).what ≡ false

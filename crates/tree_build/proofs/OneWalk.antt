@@ -1,7 +1,7 @@
 -- Putting a file in one walk: what each step on the way leaves.
 use Rattle.std.proofs.Common.{◌≡◌, ◌≢◌, ℕ, ◌+◌, ◌-◌, ◌<◌, ◌≤◌, true, false, List, [], ◌∷◌, ◌++◌, refl, sym, ap, ◌∙◌, subst, arith}
 use Rattle.std.proofs.lemmas.List.{append-nil}
-use Rattle.std.specs.Prelude.{Option, None, Some, length, position, slice_index_or, slice_set}
+use Rattle.std.specs.Prelude.{Option, None, Some, length}
 use Rattle.std.specs.FinMap as finmap
 use Rattle.std.specs.Str.{bytes_eq}
 use Rattle.git_model.specs.declared.file_mode.FileMode.TheVariants as mode
@@ -9,35 +9,23 @@ use Rattle.git_model.specs.ObjectName.{IsObjectName}
 use Rattle.git_model.specs.Repository.{Object}
 use Rattle.git_paths.specs.Paths.{IsPath, is_within_limits}
 use Rattle.git_paths.proofs.Cases.{by_cases}
-use Rattle.tenant_tables.proofs.EntryLemmas.{position-found}
 use Rattle.file_maps.specs.declared.entry.Entry.{Entry}
 use Rattle.file_maps.specs.FileMap.{Path, Listed, FileMap}
 use Rattle.file_maps.specs.Edits.{put_tree_at}
 use Rattle.file_maps.specs.StoredFiles.{stored_files}
 use Rattle.file_maps.specs.StoredTree.{ListsTree}
-use Rattle.tree_build.specs.declared.dir.Node.{Node}
 use Rattle.tree_build.specs.Shape.{What, file, unopened, opened, Shape, none, row, Held, Directory, Known, what_files, shape_files, held_files}
 use Rattle.tree_build.specs.Branch.{Branch, files_in, IsDirectory, IsWhat, IsShape, IsHeld, IsBranch, closed_by, closed_along, closed_from}
-use Rattle.tree_build.specs.Nodes.{held, shape_of, has_name}
 use Rattle.tree_build.specs.Editing.{child, removed, inserted, changed, new_directory, entries_in, is_opened, has_opened, placed, taken_by, taken_at, taken}
 use Rattle.tree_build.specs.Opened.{IsOpening, OpensHeld, OpensAlong, too_many}
 use Rattle.tree_build.specs.Putting.{file_held, new_node, leads_into, PutsAlong, PutsHeld}
 use Rattle.tree_build.proofs.Beside.{child_changed}
 use Rattle.tree_build.proofs.Entries.{closed_child, closed_at}
-use Rattle.tree_build.proofs.Named.{Rows, shape_found, found_within, put_in_place, put_new}
+use Rattle.tree_build.proofs.Named.{put_in_place, put_new}
 use Rattle.tree_build.proofs.Along.{closed_root, opens_entry, opens_none, opens_unopened}
 use Rattle.tree_build.proofs.Branches.{opened_branch, opened_files, drop_few}
 use Rattle.tree_build.proofs.Puts.{put_files, put_len, put_branch, not_many, one_good}
 use Rattle.tree_build.proofs.OpenStays.{open_placed, closed_placed, open_file}
-
--- ---- the entry at the place that was found
-
-pub found_at : (c : List ℕ) (xs : Rows) (at : ℕ) → position (has_name c) xs ≡ Some at
-    → (y : List ℕ × Node) → slice_index_or xs at y ≡ y
-    → (child (shape_of xs) c ≡ Some (held y.1))
-    × ((n : Node) → shape_of (slice_set xs at (y.0, n)) ≡ changed (shape_of xs) c (held n))
-found_at c xs at is y here =
-    shape_found c xs at (position-found (has_name c) xs at is) (found_within (has_name c) xs at is) y here
 
 -- ---- what stands under a name
 

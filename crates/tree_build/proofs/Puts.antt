@@ -1,6 +1,6 @@
 -- Branches after something was put at a path.
 use Rattle.std.proofs.Common.{◌≡◌, ◌≢◌, ℕ, ◌+◌, ◌-◌, ◌<◌, ◌≤◌, true, false, List, [], ◌∷◌, ◌++◌, filter, length, refl, sym, ap, ◌∙◌, subst, arith}
-use Rattle.std.specs.Prelude.{Option, None, Some, nat_le}
+use Rattle.std.specs.Prelude.{Option, None, Some, Ok, Err, nat_le}
 use Rattle.std.specs.FinMap as finmap
 use Rattle.std.specs.FinMap.{len-entries}
 use Rattle.std.proofs.lemmas.Bool.{le-leb, lt-leb}
@@ -19,9 +19,10 @@ use Rattle.file_maps.specs.StoredFiles.{stored_files}
 use Rattle.file_maps.proofs.Edited.{edited, edited-is, AreFiles-edited, refusal-is, one-below, one-apart}
 use Rattle.file_maps.proofs.Maps.{listed-of}
 use Rattle.tree_build.specs.Shape.{file, opened, Shape, none, Held, shape_files, held_files}
-use Rattle.tree_build.specs.Branch.{Branch, root_files, files_in, IsHeld, IsBranch, closed_along}
+use Rattle.tree_build.specs.Branch.{Branch, root_files, files_in, IsShape, IsHeld, IsBranch, closed_along, closed_from}
 use Rattle.tree_build.specs.Editing.{new_directory, placed, taken}
 use Rattle.tree_build.specs.Opened.{recounted, too_many}
+use Rattle.tree_build.specs.Replacing.{with_node_at, MayPut, PutsNode}
 use Rattle.file_maps.specs.declared.fault.Fault.{Fault}
 use Rattle.std.specs.Prelude.{Result}
 use Rattle.file_maps.specs.Calls.{Edits}
@@ -29,7 +30,8 @@ use Rattle.file_maps.specs.declared.fault.Fault.TheVariants as fault
 use Rattle.tree_build.proofs.Ordered.{branch_listed}
 use Rattle.tree_build.proofs.Mapped.{put_map}
 use Rattle.tree_build.proofs.Placed.{placed_shape, placed_count, placed_look}
-use Rattle.tree_build.proofs.Branches.{map_is, opened_files, drop_few}
+use Rattle.tree_build.proofs.Branches.{map_is, opened_files, drop_few, recount}
+use Rattle.tree_build.proofs.OpenStays.{open_placed, closed_placed}
 
 -- a map with files put into it that may be
 pub put_are_files : (m : FileMap) (to : Path) (fs : Listed) → AreFiles (listed m)
@@ -168,38 +170,82 @@ edits_put result m old new same q path is e ne within h =
 
 -- ---- a node of which the number of files is counted already
 
-module _ (os : List Object) (h : Held) (held : IsHeld os h) (full : held_files (stored_files os) h ≢ [])
-    (inside : Shape) (tree : Option (List ℕ)) (path : Path) (ne : path ≢ []) (p : IsPath path)
-    (old : Branch) (is : old.root ≡ record { what = opened tree; inside = inside })
-    (b : IsBranch os (recounted os old)) (shut : closed_along inside path ≡ 0)
-    (total : ℕ) (all : total ≡ length (root_files os old) + length (held_files (stored_files os) h)) where
+module _ {os : List Object} {path : Path} {h : Held} {total : ℕ} {old : Branch} (may : MayPut os path h total old)
+    (ne : path ≢ []) (p : IsPath path) {inside : Shape} {tree : Option (List ℕ)}
+    (is : old.root ≡ record { what = opened tree; inside = inside }) where
   same_files : files_in os (recounted os old) ≡ files_in os old
   same_files = opened_files os old (recounted os old) refl
 
-  abbrev with_node : FileMap
-  with_node = put_tree_at (files_in os old) path (held_files (stored_files os) h)
-
-  spelled : put_tree_at (files_in os (recounted os old)) path (held_files (stored_files os) h) ≡ with_node
+  spelled : put_tree_at (files_in os (recounted os old)) path (held_files (stored_files os) h) ≡ with_node_at os path h old
   spelled = ap (λ (m : FileMap). put_tree_at m path (held_files (stored_files os) h)) same_files
 
+  shut : closed_along inside path ≡ 0
+  shut = subst (λ (x : Held). closed_from x path ≡ 0) is may.shut
+
+  sound : IsShape os inside
+  sound = (subst (λ (x : Held). IsHeld os x) is may.branch.held).1
+
   pub total_few : taken (stored_files os) true path inside ≤ length (root_files os old)
-  total_few = drop_few os true path ne inside tree (recounted os old) is b shut
+  total_few = drop_few os true path ne inside tree (recounted os old) is may.branch shut
 
-  pub total_len : finmap.len with_node ≡ total - taken (stored_files os) true path inside
-  total_len =
-      let len = put_len os h held full inside tree path ne p (recounted os old) is b shut in
-      let few = total_few in
-      ap (λ (m : FileMap). finmap.len m) (sym spelled) ∙ len ∙ omega arith
+  module _ (gone : ℕ) (gone_is : gone ≡ taken (stored_files os) true path inside) where
+    total_len : finmap.len (with_node_at os path h old) ≡ total - gone
+    total_len =
+        let len = put_len os h may.held may.full inside tree path ne p (recounted os old) is may.branch shut in
+        let few = total_few in
+        let all = may.counted in
+        ap (λ (m : FileMap). finmap.len m) (sym spelled) ∙ len ∙ omega arith
 
-  pub total_files : (files reads : ℕ)
-      → files_in os (record { root = new_directory (placed path h inside); files = files; reads = reads })
-      ≡ with_node
-  total_files files reads = put_files os h held full inside tree path ne p (recounted os old) is b shut files reads ∙ spelled
+    -- it is refused
+    pub puts_nothing : 1048576 < total - gone → PutsNode os (Err fault.Limit) path h old old
+    puts_nothing over = record {
+      edits = λ memory. (ap too_many total_len ∙ many (total - gone) over, refl);
+      branch = tt;
+      still = λ _ b. b;
+      reads = refl;
+      stays = tt;
+    }
 
-  pub total_branch : (files reads : ℕ) → files ≡ total - taken (stored_files os) true path inside
-      → AreFiles (listed with_node)
-      → IsBranch os (record { root = new_directory (placed path h inside); files = files; reads = reads })
-  total_branch files reads count good =
-      let few = total_few in
-      put_branch os h held full inside tree path ne p (recounted os old) is b shut files reads (count ∙ omega arith)
-      (subst (λ (m : FileMap). AreFiles (listed m)) (sym spelled) good)
+    module _ (reads : ℕ) (same : reads ≡ old.reads) (within : total - gone ≤ 1048576) where
+      abbrev with_node : Branch
+      with_node = record { root = new_directory (placed path h inside); files = total - gone; reads = reads }
+
+      total_branch : IsBranch os with_node
+      total_branch =
+          let few = total_few in
+          let all = may.counted in
+          put_branch os h may.held may.full inside tree path ne p (recounted os old) is may.branch shut (total - gone) reads (omega arith)
+          (subst (λ (m : FileMap). AreFiles (listed m)) (sym spelled)
+          (may.good (subst (λ (n : ℕ). n ≤ 1048576) (sym total_len) within)))
+
+      -- it was put
+      pub puts_there : PutsNode os (Ok tt) path h old with_node
+      puts_there = record {
+        edits = (
+          ap too_many total_len ∙ not_many (total - gone) within,
+          put_files os h may.held may.full inside tree path ne p (recounted os old) is may.branch shut (total - gone) reads ∙ spelled,
+        );
+        branch = total_branch;
+        still = λ _ _. total_branch;
+        reads = same;
+        stays = λ q out.
+            let less = open_placed os h path inside sound q out in
+            let before = ap (λ (x : Held). closed_from x q) is in omega arith;
+      }
+
+  pub opens_there : (rest : Path) → closed_along (placed path h inside) (path ++ rest) ≡ closed_from h rest
+  opens_there rest = closed_placed os h path ne inside sound rest
+
+-- what may be put into a branch that was opened on the way
+pub may_put : {os : List Object} {b : Branch} → IsBranch os b → (path : Path) → closed_from b.root path ≡ 0
+    → (h : Held) → IsHeld os h → held_files (stored_files os) h ≢ []
+    → (total : ℕ) → total ≡ b.files + length (held_files (stored_files os) h)
+    → MayHave os path h b → MayPut os path h total b
+may_put {os} {b} branch path shut h sound full total all good = record {
+  branch = recount os b branch b.files b.reads;
+  shut = shut;
+  held = sound;
+  full = full;
+  counted = let n = branch.counted in omega arith;
+  good = good;
+}

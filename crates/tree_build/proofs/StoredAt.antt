@@ -24,12 +24,10 @@ use Rattle.file_maps.proofs.ListedOrder.{cut-root}
 use Rattle.file_maps.proofs.Nested.{entries-nil}
 use Rattle.file_maps.proofs.Stored.{adds-none, stopped}
 use Rattle.std.specs.List.{position}
-use Rattle.std.proofs.lemmas.List.Quantifiers.{position-Some}
-use Rattle.tenant_tables.proofs.EntryLemmas.{position-found}
 use Rattle.tree_build.specs.declared.dir.Node.{Node}
 use Rattle.tree_build.specs.Nodes.{has_name, held, shape_of}
 use Rattle.tree_build.proofs.Entries.{closed_child, closed_at}
-use Rattle.tree_build.proofs.Named.{shape_found}
+use Rattle.tree_build.proofs.Named.{entry_found}
 use Rattle.tree_build.proofs.Places.{Entries}
 use Rattle.tree_build.specs.Branch.{Branch, IsDirectory, IsShape, IsHeld, IsBranch, files_in, root_files, closed_by, closed_along, closed_from}
 use Rattle.tree_build.specs.Shape.{What, file, unopened, opened, Shape, none, row, Held}
@@ -126,10 +124,7 @@ closed-same g h q is =
 pub closed-there : (es : Entries) (c : List ℕ) (rest : Path) (i : ℕ) (x : List ℕ × Node) → position (has_name c) es ≡ Some i
     → x ≡ get_or es i x → closed_along (shape_of es) (c ∷ rest) ≡ closed_from (held x.1) rest
 closed-there es c rest i x is at =
-    let found = position-Some (has_name c) es i x is in
-    closed_at (shape_of es) c rest
-    ∙ ap (λ (o : Option Held). closed_child o rest)
-    (shape_found c es i (position-found (has_name c) es i is) found.0 x (sym at)).0
+    closed_at (shape_of es) c rest ∙ ap (λ (o : Option Held). closed_child o rest) (entry_found c es i is x at).stands
 
 -- ---- a branch
 

@@ -30,7 +30,7 @@ use Rattle.file_maps.proofs.StoredAgain.{lists-some, inside-some, filled-in}
 use Rattle.file_maps.proofs.StoredTable.{stored-listed, table-summary}
 use Rattle.tree_build.specs.Parts.{spread, part_of, AreParts}
 use Rattle.tree_build.specs.Rows.{IsPart, a_file, a_directory, HaveParts}
-use Rattle.tree_build.specs.Standing.{stands_at, row_named, IsFoundAt}
+use Rattle.tree_build.specs.Standing.{IsRow, stands_at, row_named, IsFoundAt}
 use Rattle.tree_build.proofs.Look.{turn_bytes}
 use Rattle.tree_build.proofs.Rows.{no_file, id-again}
 use Rattle.tree_build.proofs.Spread.{cut-spread}
@@ -252,68 +252,62 @@ not_found : (o : Option TreeEntry) → ◌≡◌ {A = Option Entry} None (option
 not_found None h = refl
 not_found (Some e) h = cc h
 
-module _ (digest : List ℕ → List ℕ) (pool : Cells) (entries : Entries) (stands : IsBackedBy digest pool entries)
-    (id : List ℕ) (t : ListsTree (objects pool entries) id (stored_files (objects pool entries) id))
-    (rows : List TreeEntry) (has : HasTree (objects pool entries) id rows) (c : List ℕ) where
-  abbrev Stands : Option Entry → Path → Type 0
-  Stands o rest = o ≡ stands_at digest (stored_files (objects pool entries) id) (c ∷ rest)
+module _ {digest : List ℕ → List ℕ} {pool : Cells} {entries : Entries} (stands : IsBackedBy digest pool entries)
+    {id : List ℕ} (t : ListsTree (objects pool entries) id (stored_files (objects pool entries) id))
+    {c : List ℕ} {o : Option Entry} (named : IsRow (objects pool entries) id c o) where
+  abbrev rows : List TreeEntry
+  rows = named.rows
 
-  pub at-none : (rest : Path) → ◌≡◌ {A = Option Entry} None (option_map what (row_named rows c)) → Stands None rest
-  at-none rest h = sym (below-none digest pool entries stands id t rows has c rest (not_found (row_named rows c) h))
+  -- what is at a path below the tree, with these files
+  abbrev IsAt : Option Entry → Path → Type 0
+  IsAt x rest =
+      (x ≡ stands_at digest (stored_files (objects pool entries) id) (c ∷ rest))
+      × IsFoundAt (objects pool entries) x (cut (c ∷ rest) (stored_files (objects pool entries) id))
 
-  pub at-here : (r : Entry) (rest : Path) → Some r ≡ option_map what (row_named rows c) → rest ≡ [] → Stands (Some r) rest
-  at-here r rest h is =
-      let e = described (row_named rows c) r h in
-      ap (λ (x : Entry). Some x) e.2
-      ∙ sym (below-here digest pool entries stands id t rows has c e.0 e.1)
-      ∙ ap (λ (p : Path). stands_at digest (stored_files (objects pool entries) id) (c ∷ p)) (sym is)
+  pub none-named : (rest : Path) → o ≡ None → IsAt None rest
+  none-named rest is =
+      let none = not_found (row_named rows c) (sym is ∙ named.row) in (
+        sym (below-none digest pool entries stands id t rows named.tree c rest none),
+        found-none digest pool entries stands id t rows named.tree c rest none,
+      )
 
-  pub at-file : (r : Entry) (rest : Path) (d : List ℕ) (left : Path) → Some r ≡ option_map what (row_named rows c)
-      → rest ≡ d ∷ left → r.mode ≢ mode.Directory → Stands None rest
-  at-file r rest d left h is ne =
-      let e = described (row_named rows c) r h in
-      sym (below-file digest pool entries stands id t rows has c d left e.0 e.1
-      (λ dir. ne (ap (λ (x : Entry). x.mode) e.2 ∙ dir)))
-      ∙ ap (λ (p : Path). stands_at digest (stored_files (objects pool entries) id) (c ∷ p)) (sym is)
+  row-of : (r : Entry) → o ≡ Some r → (e : TreeEntry) × (row_named rows c ≡ Some e) × (r ≡ what e)
+  row-of r is = described (row_named rows c) r (sym is ∙ named.row)
 
-  pub at-directory : (r : Entry) (rest : Path) → Some r ≡ option_map what (row_named rows c) → r.mode ≡ mode.Directory
-      → (stands_at digest (stored_files (objects pool entries) id) (c ∷ rest) ≡ stands_at digest (stored_files (objects pool entries) r.name) rest)
-      × ListsTree (objects pool entries) r.name (stored_files (objects pool entries) r.name)
-      × (stored_files (objects pool entries) r.name ≢ [])
-  at-directory r rest h dir =
-      let e = described (row_named rows c) r h in
-      subst
-      (λ (x : Entry). (stands_at digest (stored_files (objects pool entries) id) (c ∷ rest) ≡ stands_at digest (stored_files (objects pool entries) x.name) rest)
-      × ListsTree (objects pool entries) x.name (stored_files (objects pool entries) x.name)
-      × (stored_files (objects pool entries) x.name ≢ []))
-      (sym e.2)
-      (below-directory digest pool entries stands id t rows has c rest e.0 e.1 (sym (ap (λ (x : Entry). x.mode) e.2) ∙ dir))
+  pub named-here : (r : Entry) → o ≡ Some r → (rest : Path) → rest ≡ [] → IsAt (Some r) rest
+  named-here r is rest end =
+      let e = row-of r is in
+      subst (λ (p : Path). IsAt (Some r) p) (sym end)
+      (subst (λ (x : Entry). IsAt (Some x) []) (sym e.2) (
+        sym (below-here digest pool entries stands id t rows named.tree c e.0 e.1),
+        found-here digest pool entries stands id t rows named.tree c e.0 e.1,
+      ))
 
-  abbrev Found : Option Entry → Path → Type 0
-  Found o rest = IsFoundAt (objects pool entries) o (cut (c ∷ rest) (stored_files (objects pool entries) id))
+  pub no-directory : (r : Entry) → o ≡ Some r → (rest : Path) (d : List ℕ) (left : Path) → rest ≡ d ∷ left
+      → r.mode ≢ mode.Directory → IsAt None rest
+  no-directory r is rest d left more ne =
+      let e = row-of r is in
+      let no : e.0.mode ≢ mode.Directory = λ dir. ne (ap (λ (x : Entry). x.mode) e.2 ∙ dir) in
+      subst (λ (p : Path). IsAt None p) (sym more) (
+        sym (below-file digest pool entries stands id t rows named.tree c d left e.0 e.1 no),
+        found-file digest pool entries stands id t rows named.tree c d left e.0 e.1 no,
+      )
 
-  pub files-none : (rest : Path) → ◌≡◌ {A = Option Entry} None (option_map what (row_named rows c)) → Found None rest
-  files-none rest h = found-none digest pool entries stands id t rows has c rest (not_found (row_named rows c) h)
+  -- what is below a directory is at the rest of the path below its tree
+  pub record IsBelow (id_below : List ℕ) (rest : Path) : Type 0 where
+    pub same : stands_at digest (stored_files (objects pool entries) id) (c ∷ rest)
+        ≡ stands_at digest (stored_files (objects pool entries) id_below) rest
+    pub tree : ListsTree (objects pool entries) id_below (stored_files (objects pool entries) id_below)
+    pub files : cut (c ∷ rest) (stored_files (objects pool entries) id)
+        ≡ cut rest (stored_files (objects pool entries) id_below)
 
-  pub files-here : (r : Entry) (rest : Path) → Some r ≡ option_map what (row_named rows c) → rest ≡ [] → Found (Some r) rest
-  files-here r rest h is =
-      let e = described (row_named rows c) r h in
-      subst (λ (p : Path). Found (Some r) p) (sym is)
-      (subst (λ (x : Entry). Found (Some x) []) (sym e.2) (found-here digest pool entries stands id t rows has c e.0 e.1))
-
-  pub files-file : (r : Entry) (rest : Path) (d : List ℕ) (left : Path) → Some r ≡ option_map what (row_named rows c)
-      → rest ≡ d ∷ left → r.mode ≢ mode.Directory → Found None rest
-  files-file r rest d left h is ne =
-      let e = described (row_named rows c) r h in
-      subst (λ (p : Path). Found None p) (sym is)
-      (found-file digest pool entries stands id t rows has c d left e.0 e.1
-      (λ dir. ne (ap (λ (x : Entry). x.mode) e.2 ∙ dir)))
-
-  pub files-directory : (r : Entry) (rest : Path) → Some r ≡ option_map what (row_named rows c) → r.mode ≡ mode.Directory
-      → cut (c ∷ rest) (stored_files (objects pool entries) id) ≡ cut rest (stored_files (objects pool entries) r.name)
-  files-directory r rest h dir =
-      let e = described (row_named rows c) r h in
-      subst
-      (λ (x : Entry). cut (c ∷ rest) (stored_files (objects pool entries) id) ≡ cut rest (stored_files (objects pool entries) x.name))
-      (sym e.2)
-      (found-directory digest pool entries stands id t rows has c rest e.0 e.1 (sym (ap (λ (x : Entry). x.mode) e.2) ∙ dir))
+  pub in-directory : (r : Entry) → o ≡ Some r → (rest : Path) → r.mode ≡ mode.Directory → IsBelow r.name rest
+  in-directory r is rest dir =
+      let e = row-of r is in
+      let its : e.0.mode ≡ mode.Directory = sym (ap (λ (x : Entry). x.mode) e.2) ∙ dir in
+      let below = below-directory digest pool entries stands id t rows named.tree c rest e.0 e.1 its in
+      subst (λ (x : Entry). IsBelow x.name rest) (sym e.2) (record {
+        same = below.0;
+        tree = below.1;
+        files = found-directory digest pool entries stands id t rows named.tree c rest e.0 e.1 its;
+      })

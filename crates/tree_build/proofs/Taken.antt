@@ -3,7 +3,7 @@ use Rattle.std.proofs.Common.{◌≡◌, ◌≢◌, ℕ, ◌+◌, ◌-◌, ◌�
 use Rattle.std.specs.Prelude.{Option, None, Some}
 use Rattle.std.specs.FinMap as finmap
 use Rattle.git_model.specs.Repository.{Object}
-use Rattle.file_maps.specs.FileMap.{Path, Listed, FileMap, AreFiles, listed}
+use Rattle.file_maps.specs.FileMap.{Path, Listed, FileMap, listed}
 use Rattle.file_maps.specs.Edits.{without}
 use Rattle.file_maps.specs.StoredFiles.{stored_files}
 use Rattle.file_maps.proofs.Puts.{AreFiles-filter}
@@ -17,22 +17,8 @@ use Rattle.tree_build.proofs.Copies.{nothing_stands}
 use Rattle.tree_build.proofs.Empty.{bare_files, bare_branch}
 use Rattle.tree_build.proofs.Ordered.{branch_listed}
 use Rattle.tree_build.proofs.Dropped.{dropped_shape, dropped_count}
-use Rattle.tree_build.proofs.Branches.{map_is, opened_files, drop_files, drop_branch, without_root}
+use Rattle.tree_build.proofs.Branches.{map_is, opened_files, recount, drop_files, drop_branch, without_root}
 use Rattle.tree_build.proofs.OpenStays.{open_dropped}
-
--- ---- the number of files put right
-
-pub recount : (os : List Object) (b : Branch) → IsBranch os b → (files reads : ℕ)
-    → IsBranch os (recounted os (record { root = b.root; files = files; reads = reads }))
-recount os b h files reads = record {
-  directory = h.directory;
-  held = h.held;
-  counted = refl;
-  files =
-      subst (λ (m : FileMap). AreFiles (listed m))
-      (sym (opened_files os b (recounted os (record { root = b.root; files = files; reads = reads })) refl))
-      h.files;
-}
 
 -- ---- nothing goes
 
@@ -114,16 +100,16 @@ module _ (os : List Object) where
       by (unopened id) more = no_files_there path
       by (opened tree) more = more
 
-  pub record Rest (path : Path) (b : Branch) (rest : Held) (many read : ℕ) : Type 0 where
-    pub branch : IsBranch os (recounted os (record { root = rest; files = many; reads = read }))
-    pub files : files_in os (record { root = rest; files = many; reads = read })
-        ≡ without (files_in os b) path
-    pub count : length (root_files os b) ≡ length (held_files known rest)
+  -- what stood at a path is gone, but it is still in the number of files
+  pub record IsLeft (path : Path) (b left : Branch) : Type 0 where
+    pub branch : IsBranch os (recounted os left)
+    pub files : files_in os left ≡ without (files_in os b) path
+    pub count : length (root_files os b) ≡ length (root_files os left)
         + length (files_of_held known (standing path (Some b.root)))
-    pub stays : (q : Path) → closed_from rest q ≤ closed_from b.root q
+    pub stays : (q : Path) → closed_from left.root q ≤ closed_from b.root q
 
   pub rest_is : (path : Path) (b : Branch) → IsBranch os b → closed_from b.root path ≡ 0
-      → (files reads : ℕ) → Rest path b (rest_of path b.root) files reads
+      → (files reads : ℕ) → IsLeft path b (record { root = rest_of path b.root; files = files; reads = reads })
   rest_is [] b h shut files reads = record {
     branch = recount os _ (bare_branch os None none reads refl refl) files reads;
     files =
@@ -138,7 +124,8 @@ module _ (os : List Object) where
   }
   rest_is (c ∷ path) b h shut files reads = by b.root.what refl
     where
-      by : (w : What) → b.root.what ≡ w → Rest (c ∷ path) b (rest_by (c ∷ path) w b.root) files reads
+      by : (w : What) → b.root.what ≡ w
+          → IsLeft (c ∷ path) b (record { root = rest_by (c ∷ path) w b.root; files = files; reads = reads })
       by (file e) is = absurd (subst IsDirectory is h.directory)
       by (unopened id) is =
           let none_left = sym shut ∙ ap (λ (w : What). closed_by w (closed_along b.root.inside (c ∷ path)) (length (c ∷ path))) is in

@@ -9,6 +9,7 @@ pub mod Chunks
 pub mod Falls
 pub mod Lending
 pub mod Opened
+pub mod Replacing
 pub mod Putting
 pub mod Parts
 pub mod Rows

@@ -9,14 +9,13 @@ ghost use Rattle.file_maps.specs.Edits.{without, moved, put_at, put_tree_at, put
 ghost use Rattle.git_model.specs.declared.file_mode.FileMode.TheVariants as mode;
 ghost use Rattle.git_model.specs.Limits.{files_limit};
 ghost use Rattle.git_model.specs.ObjectName.{IsObjectName};
-ghost use Rattle.git_paths.specs.Paths.{strip_prefix, is_within_limits};
-ghost use Rattle.file_maps.specs.FileMap.{Path as FilePath, AreFiles, listed};
-ghost use Rattle.file_maps.specs.StoredFiles.{stored_files};
-ghost use Rattle.tree_build.specs.Shape.{held_files};
+ghost use Rattle.git_paths.specs.Paths.{is_within_limits};
+ghost use Rattle.file_maps.specs.FileMap.{Path as FilePath};
 ghost use Rattle.tree_build.specs.Nodes.{held};
 ghost use Rattle.file_maps.specs.Calls.{Edits};
-ghost use Rattle.tree_build.specs.Branch.{root_files, files_in, IsHeld, IsBranch, CountsAtMost, closed_from};
-ghost use Rattle.tree_build.specs.Opened.{recounted, is_kept, too_many};
+ghost use Rattle.tree_build.specs.Branch.{files_in, IsBranch, CountsAtMost, closed_from};
+ghost use Rattle.tree_build.specs.Opened.{is_kept, too_many};
+ghost use Rattle.tree_build.specs.Replacing.{MayPut, PutsNode};
 
 use crate::component::has_components;
 use crate::counting::taken;
@@ -139,31 +138,11 @@ impl Files {
         total: usize,
     ) -> Result<(), Fault>
         requires stands { IsBackedBy N.digest_of pool.now table.now.entries }
-        requires branch { let os = objects pool.now table.now.entries in
-            IsBranch os (recounted os self.old) }
-        requires shut { closed_from self.old.root path.now ≡ 0 }
         requires some { path.now ≢ [] }
-        requires held { IsHeld (objects pool.now table.now.entries) (held node) }
-        requires full { held_files (stored_files (objects pool.now table.now.entries)) (held node)
-            ≢ [] }
-        requires total { let os = objects pool.now table.now.entries in
-            total ≡ length (root_files os self.old)
-            + length (held_files (stored_files os) (held node)) }
-        requires good { let os = objects pool.now table.now.entries in
-            let after = put_tree_at (files_in os self.old) path.now
-            (held_files (stored_files os) (held node)) in
-            finmap.len after ≤ files_limit → AreFiles (listed after) }
-        ensures edits { let os = objects pool.now table.now.entries in
-            let m = files_in os self.old in
-            let after = put_tree_at m path.now (held_files (stored_files os) (held node)) in
-            Edits result m (files_in os self.new) (too_many (finmap.len after)) after }
-        ensures branch { OnOk result (IsBranch (objects pool.now table.now.entries) self.new) }
-        ensures still { result ≢ Err fault.Memory
-            → IsBranch (objects pool.now table.now.entries) self.old
-            → IsBranch (objects pool.now table.now.entries) self.new }
-        ensures reads { self.new.reads ≡ self.old.reads }
-        ensures open { OnOk result ((q : FilePath) → strip_prefix path.now q ≡ None
-            → closed_from self.new.root q ≤ closed_from self.old.root q) }
+        requires may { MayPut (objects pool.now table.now.entries) path.now (held node) total
+            self.old }
+        ensures puts { PutsNode (objects pool.now table.now.entries) result path.now (held node)
+            self.old self.new }
         ensures there { OnOk result ((rest : FilePath)
             → closed_from self.new.root (path.now ++ rest)
             ≡ closed_from (held node) rest) }

@@ -16,10 +16,11 @@ ghost use Rattle.file_maps.specs.Edits.{files_at, moved, put_tree_at, copied, re
 ghost use Rattle.file_maps.specs.FileMap.{Path as FilePath, AreFiles, listed};
 ghost use Rattle.file_maps.specs.StoredFiles.{stored_files};
 ghost use Rattle.tree_build.specs.Shape.{held_files};
-ghost use Rattle.tree_build.specs.Branch.{root_files, files_in, IsDirectory, IsHeld, IsBranch, CountsAtMost, closed_from};
+ghost use Rattle.tree_build.specs.Branch.{files_in, IsDirectory, IsHeld, IsBranch, CountsAtMost, closed_from};
 ghost use Rattle.tree_build.specs.Nodes.{held};
 ghost use Rattle.tree_build.specs.Searches.{AreOrdered};
-ghost use Rattle.tree_build.specs.Opened.{recounted, too_many};
+ghost use Rattle.tree_build.specs.Opened.{too_many};
+ghost use Rattle.tree_build.specs.Replacing.{MayPut, PutsNode};
 ghost use Rattle.tree_build.specs.Moving.{standing, rest_of, IsNoLonger, has_entries, IsMoved, path_fault, summary_fault};
 ghost use Rattle.tree_build.specs.Sums.{IsSmall};
 
@@ -126,33 +127,13 @@ impl Files {
         total: usize,
     ) -> Result<(), Fault>
         requires stands { IsBackedBy N.digest_of pool.now table.now.entries }
-        requires branch { let os = objects pool.now table.now.entries in
-            IsBranch os (recounted os self.old) }
-        requires shut { closed_from self.old.root to.now ≡ 0 }
-        requires held { IsHeld (objects pool.now table.now.entries) (held node) }
         requires directory { to.now ≡ [] → IsDirectory (held node).what }
-        requires full { held_files (stored_files (objects pool.now table.now.entries)) (held node)
-            ≢ [] }
-        requires total { let os = objects pool.now table.now.entries in
-            total ≡ length (root_files os self.old)
-            + length (held_files (stored_files os) (held node)) }
         requires few { length (held_files (stored_files (objects pool.now table.now.entries))
             (held node)) ≤ files_limit }
-        requires good { let os = objects pool.now table.now.entries in
-            let after = put_tree_at (files_in os self.old) to.now
-            (held_files (stored_files os) (held node)) in
-            finmap.len after ≤ files_limit → AreFiles (listed after) }
-        ensures edits { let os = objects pool.now table.now.entries in
-            let m = files_in os self.old in
-            let after = put_tree_at m to.now (held_files (stored_files os) (held node)) in
-            Edits result m (files_in os self.new) (too_many (finmap.len after)) after }
-        ensures branch { OnOk result (IsBranch (objects pool.now table.now.entries) self.new) }
-        ensures still { result ≢ Err fault.Memory
-            → IsBranch (objects pool.now table.now.entries) self.old
-            → IsBranch (objects pool.now table.now.entries) self.new }
-        ensures reads { self.new.reads ≡ self.old.reads }
-        ensures open { OnOk result ((q : FilePath) → strip_prefix to.now q ≡ None
-            → closed_from self.new.root q ≤ closed_from self.old.root q) }
+        requires may { MayPut (objects pool.now table.now.entries) to.now (held node) total
+            self.old }
+        ensures { PutsNode (objects pool.now table.now.entries) result to.now (held node)
+            self.old self.new }
     {
         if to.len() == 0 {
             let files = total - count(pool, table, &self.root);

@@ -1,6 +1,5 @@
 use Rattle.std.proofs.Common.{ap, length, arith}
-use Rattle.std.proofs.lemmas.Result.{err_from_is_err_and}
-use Rattle.pool_file_format.proofs.Readings.{starts_none, bytes_end, grows}
+use Rattle.pool_file_format.proofs.Readings.{starts_none, bytes_end, grows, stops}
 use Rattle.pool_file_format.proofs.filling.read_bytes.Goals as goal
 
 pub loop-left-init : goal.loop-left-init
@@ -8,9 +7,8 @@ loop-left-init g c = let n = ap length c.in_ok-bytes.ensures.items in (omega (ar
 
 pub returns-in_err-fill_more : goal.returns-in_err-fill_more
 returns-in_err-fill_more g c =
-    let p = err_from_is_err_and c.from_residual-in_err-fill_more.result c.from_residual-in_err-fill_more.ensures.1 in
     let i = c.loop-left.invariant.0 in let m = c.min-block.ensures in
-    rw (p.1, p.2) (bytes_end _ c.min-block.result c.args.count c.in_err-fill_more.field-0.0 _ _ _ c.loop-left.bytes.items (omega (arith, i, m)) c.loop-left.invariant.1 c.in_err-fill_more.ensures)
+    stops _ _ _ c.from_residual-in_err-fill_more.ensures.1 (bytes_end _ c.min-block.result c.args.count c.in_err-fill_more.field-0.0 _ _ _ c.loop-left.bytes.items (omega (arith, i, m)) c.loop-left.invariant.1 c.in_err-fill_more.ensures)
 
 pub loop-left-preserved : goal.loop-left-preserved
 loop-left-preserved g c =

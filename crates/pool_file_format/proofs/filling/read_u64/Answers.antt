@@ -1,12 +1,10 @@
 use Rattle.std.specs.Int.{w64}
-use Rattle.std.proofs.lemmas.Result.{err_from_is_err_and}
-use Rattle.pool_file_format.proofs.Readings.{number_reads, number_fails}
+use Rattle.pool_file_format.proofs.Readings.{number_reads, number_fails, stops}
 use Rattle.pool_file_format.proofs.filling.read_u64.Goals as goal
 
 pub returns-in_err-fill : goal.returns-in_err-fill
 returns-in_err-fill g c =
-    let p = err_from_is_err_and c.from_residual.result c.from_residual.ensures.1 in
-    rw (p.1, p.2) (number_fails w64 _ _ _ c.in_err-fill.field-0.0 c.in_err-fill.ensures.length c.in_err-fill.ensures.reads)
+    stops _ _ _ c.from_residual.ensures.1 (number_fails w64 _ _ _ _ c.in_err-fill.ensures.length c.in_err-fill.ensures.reads)
 
 pub returns : goal.returns
 returns g c = number_reads w64 _ c.fill.new.room c.from_be_bytes.result _ _ c.fill.ensures.length c.from_be_bytes.ensures c.in_ok-fill.ensures.reads

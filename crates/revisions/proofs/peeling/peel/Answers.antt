@@ -1,7 +1,7 @@
 use Rattle.std.proofs.Common.{sym, ◌∙◌, ap}
 use Rattle.git_model.specs.Peeling.{peeled_to}
 use Rattle.revisions.specs.declared.fault.Fault.TheVariants as fault
-use Rattle.revisions.specs.Faults.{or_fault}
+use Rattle.git_model.specs.Results.{or_fault}
 use Rattle.revisions.proofs.peeling.peel.Goals as goal
 
 pub returns-in-Some : goal.returns-in-Some

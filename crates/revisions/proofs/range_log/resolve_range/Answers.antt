@@ -4,7 +4,7 @@ use Rattle.commit_walk.specs.Logs.{log_of}
 use Rattle.commit_walk.proofs.LogOrder.{one_log}
 use Rattle.revisions.specs.declared.commit_range.Range.{Range}
 use Rattle.revisions.specs.declared.fault.Fault.{Fault}
-use Rattle.revisions.specs.Faults.{and_then}
+use Rattle.git_model.specs.Results.{and_then}
 use Rattle.revisions.specs.Ranges.{is_in_range}
 use Rattle.revisions.proofs.Differences.{range_commit}
 use Rattle.revisions.proofs.range_log.resolve_range.Goals as goal

@@ -2,7 +2,7 @@ use Rattle.std.proofs.Common.{Some, Err, ap}
 use Rattle.std.proofs.lemmas.Result.{err_from_is_err_and}
 use Rattle.git_model.specs.declared.kind.Kind.TheVariants as kind
 use Rattle.stream_grammar.specs.Shown.{commit_shown}
-use Rattle.stream_parts.specs.Faults.{and_then}
+use Rattle.git_model.specs.Results.{and_then}
 use Rattle.stream_commands.specs.Workspace.{quiet}
 use Rattle.stream_parts.specs.Marks.{room_for, with_mark}
 use Rattle.stream_commands.specs.CommitIshes.{commit_in}

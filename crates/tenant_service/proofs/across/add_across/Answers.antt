@@ -11,81 +11,61 @@ use Rattle.tenant_service.proofs.across.add_across.Goals as goal
 
 pub get-kind-requires : goal.get-kind-requires
 get-kind-requires g c =
-    source-live g.N.Naming.digest_of c.args.from.now c.args.table.now.entries c.args.place
-    c.args.pool.now c.args.made.now.entries c.requires c.len-distinct.ensures.distinct
-    c.len-distinct.ensures.limited c.unwrap-id.result.0 c.unwrap-id.result.1
-    (sym c.unwrap-id.ensures ∙ c.at.ensures)
+    source-live _ _ _ _ _ _ c.requires c.len-distinct.ensures.distinct c.len-distinct.ensures.limited
+    c.unwrap-id.result.0 c.unwrap-id.result.1 (sym c.unwrap-id.ensures ∙ c.at.ensures)
 
 pub put_named-requires-clause-named : goal.put_named-requires-clause-named
 put_named-requires-clause-named g c =
-    source-named g.N.Naming.digest_of c.args.from.now c.args.table.now.entries c.args.place
-    c.args.pool.now c.args.made.now.entries c.requires c.len-distinct.ensures.distinct
-    c.len-distinct.ensures.limited c.unwrap-id.result.0 c.unwrap-id.result.1
-    (sym c.unwrap-id.ensures ∙ c.at.ensures)
+    source-named _ _ _ _ _ _ c.requires c.len-distinct.ensures.distinct c.len-distinct.ensures.limited
+    c.unwrap-id.result.0 c.unwrap-id.result.1 (sym c.unwrap-id.ensures ∙ c.at.ensures)
     ∙ ap (name_by g.N.Naming.digest_of) (sym c.get-kind.ensures)
 
 pub add_held-added-requires-clause-stands : goal.add_held-added-requires-clause-stands
 add_held-added-requires-clause-stands g c =
-    put-stands g.N.Naming.digest_of c.args.from.now c.args.table.now.entries c.args.place
-    c.args.pool.now c.args.made.now.entries c.requires c.len-distinct.ensures.distinct
-    c.len-distinct.ensures.limited c.unwrap-id.result.0 c.unwrap-id.result.1
-    (sym c.unwrap-id.ensures ∙ c.at.ensures) c.put_named.new.self c.in_ok-slot.slot
+    put-stands _ _ _ _ _ _ c.requires c.len-distinct.ensures.distinct c.len-distinct.ensures.limited
+    c.unwrap-id.result.0 c.unwrap-id.result.1 (sym c.unwrap-id.ensures ∙ c.at.ensures) c.put_named.new.self c.in_ok-slot.slot
     (subst (λ (x : Content). Puts c.args.pool.now c.put_named.new.self c.in_ok-slot.slot x) c.get-kind.ensures c.in_ok-slot.ensures.puts)
 
 pub add_held-added-requires-clause-room : goal.add_held-added-requires-clause-room
 add_held-added-requires-clause-room g c =
-    put-room g.N.Naming.digest_of c.args.from.now c.args.table.now.entries c.args.place
-    c.args.pool.now c.args.made.now.entries c.requires c.len-distinct.ensures.distinct
-    c.len-distinct.ensures.limited c.unwrap-id.result.0 c.unwrap-id.result.1
-    (sym c.unwrap-id.ensures ∙ c.at.ensures) c.put_named.new.self c.in_ok-slot.slot
+    put-room _ _ _ _ _ _ c.requires c.len-distinct.ensures.distinct c.len-distinct.ensures.limited
+    c.unwrap-id.result.0 c.unwrap-id.result.1 (sym c.unwrap-id.ensures ∙ c.at.ensures) c.put_named.new.self c.in_ok-slot.slot
     (subst (λ (x : Content). Puts c.args.pool.now c.put_named.new.self c.in_ok-slot.slot x) c.get-kind.ensures c.in_ok-slot.ensures.puts)
 
 pub add_held-added-requires-clause-named : goal.add_held-added-requires-clause-named
 add_held-added-requires-clause-named g c =
-    put-named g.N.Naming.digest_of c.args.from.now c.args.table.now.entries c.args.place
-    c.args.pool.now c.args.made.now.entries c.requires c.len-distinct.ensures.distinct
-    c.len-distinct.ensures.limited c.unwrap-id.result.0 c.unwrap-id.result.1
-    (sym c.unwrap-id.ensures ∙ c.at.ensures) c.put_named.new.self c.in_ok-slot.slot
+    put-named _ _ _ _ _ _ c.requires c.len-distinct.ensures.distinct c.len-distinct.ensures.limited
+    c.unwrap-id.result.0 c.unwrap-id.result.1 (sym c.unwrap-id.ensures ∙ c.at.ensures) c.put_named.new.self c.in_ok-slot.slot
     (subst (λ (x : Content). Puts c.args.pool.now c.put_named.new.self c.in_ok-slot.slot x) c.get-kind.ensures c.in_ok-slot.ensures.puts)
 
 pub add_held-added-requires-clause-new : goal.add_held-added-requires-clause-new
 add_held-added-requires-clause-new g c =
-    is-new g.N.Naming.digest_of c.args.from.now c.args.table.now.entries c.args.place
-    c.args.pool.now c.args.made.now.entries c.requires c.len-distinct.ensures.distinct
-    c.len-distinct.ensures.limited c.unwrap-id.result.0 c.unwrap-id.result.1
-    (sym c.unwrap-id.ensures ∙ c.at.ensures)
+    is-new _ _ _ _ _ _ c.requires c.len-distinct.ensures.distinct c.len-distinct.ensures.limited
+    c.unwrap-id.result.0 c.unwrap-id.result.1 (sym c.unwrap-id.ensures ∙ c.at.ensures)
 
 pub add_held-added-requires-clause-spare : goal.add_held-added-requires-clause-spare
 add_held-added-requires-clause-spare g c =
-    is-spare g.N.Naming.digest_of c.args.from.now c.args.table.now.entries c.args.place
-    c.args.pool.now c.args.made.now.entries c.requires c.len-distinct.ensures.distinct
-    c.len-distinct.ensures.limited c.unwrap-id.result.0 c.unwrap-id.result.1
-    (sym c.unwrap-id.ensures ∙ c.at.ensures)
+    is-spare _ _ _ _ _ _ c.requires c.len-distinct.ensures.distinct c.len-distinct.ensures.limited
+    c.unwrap-id.result.0 c.unwrap-id.result.1 (sym c.unwrap-id.ensures ∙ c.at.ensures)
 
 pub add_held-added-requires-clause-summed : goal.add_held-added-requires-clause-summed
 add_held-added-requires-clause-summed g c =
     subst (λ (s : Option Summary). SummedAfter c.args.made.now.entries
     (content c.put_named.new.self c.in_ok-slot.slot) s) (sym c.summary.ensures)
-    (put-summed g.N.Naming.digest_of c.args.from.now c.args.table.now.entries c.args.place
-    c.args.pool.now c.args.made.now.entries c.requires c.len-distinct.ensures.distinct
-    c.len-distinct.ensures.limited c.unwrap-id.result.0 c.unwrap-id.result.1
-    (sym c.unwrap-id.ensures ∙ c.at.ensures) c.put_named.new.self c.in_ok-slot.slot
+    (put-summed _ _ _ _ _ _ c.requires c.len-distinct.ensures.distinct c.len-distinct.ensures.limited
+    c.unwrap-id.result.0 c.unwrap-id.result.1 (sym c.unwrap-id.ensures ∙ c.at.ensures) c.put_named.new.self c.in_ok-slot.slot
     (subst (λ (x : Content). Puts c.args.pool.now c.put_named.new.self c.in_ok-slot.slot x) c.get-kind.ensures c.in_ok-slot.ensures.puts))
 
 pub add_held-added-requires-clause-short : goal.add_held-added-requires-clause-short
 add_held-added-requires-clause-short g c =
-    put-short g.N.Naming.digest_of c.args.from.now c.args.table.now.entries c.args.place
-    c.args.pool.now c.args.made.now.entries c.requires c.len-distinct.ensures.distinct
-    c.len-distinct.ensures.limited c.unwrap-id.result.0 c.unwrap-id.result.1
-    (sym c.unwrap-id.ensures ∙ c.at.ensures) c.put_named.new.self c.in_ok-slot.slot
+    put-short _ _ _ _ _ _ c.requires c.len-distinct.ensures.distinct c.len-distinct.ensures.limited
+    c.unwrap-id.result.0 c.unwrap-id.result.1 (sym c.unwrap-id.ensures ∙ c.at.ensures) c.put_named.new.self c.in_ok-slot.slot
     (subst (λ (x : Content). Puts c.args.pool.now c.put_named.new.self c.in_ok-slot.slot x) c.get-kind.ensures c.in_ok-slot.ensures.puts)
 
 pub returns-clause-stands : goal.returns-clause-stands
 returns-clause-stands g c =
-    left-stands g.N.Naming.digest_of c.args.from.now c.args.table.now.entries c.args.place
-    c.args.pool.now c.args.made.now.entries c.requires c.len-distinct.ensures.distinct
-    c.len-distinct.ensures.limited c.unwrap-id.result.0 c.unwrap-id.result.1
-    (sym c.unwrap-id.ensures ∙ c.at.ensures) c.put_named.new.self c.in_ok-slot.slot
+    left-stands _ _ _ _ _ _ c.requires c.len-distinct.ensures.distinct c.len-distinct.ensures.limited
+    c.unwrap-id.result.0 c.unwrap-id.result.1 (sym c.unwrap-id.ensures ∙ c.at.ensures) c.put_named.new.self c.in_ok-slot.slot
     (subst (λ (x : Content). Puts c.args.pool.now c.put_named.new.self c.in_ok-slot.slot x) c.get-kind.ensures c.in_ok-slot.ensures.puts)
     c.add_held-added.new.pool c.add_held-added.new.self.entries c.add_held-added.ensures.stands
     c.add_held-added.ensures.others c.release.new.self c.release.ensures
@@ -101,10 +81,9 @@ returns-clause-ok g c =
     on-ok c.add_held-added.result (Adds D here c.summary.result q old r new)
     (HasFirst c.args.from.now c.args.table.now.entries (c.args.place + 1) c.release.new.self new.entries)
     (λ adds.
-    left-first D c.args.from.now c.args.table.now.entries c.args.place
-    c.args.pool.now old.entries c.requires c.len-distinct.ensures.distinct
-    c.len-distinct.ensures.limited c.unwrap-id.result.0 c.unwrap-id.result.1
-    (sym c.unwrap-id.ensures ∙ c.at.ensures) q c.in_ok-slot.slot
+    left-first _ _ _ _ _ _ c.requires c.len-distinct.ensures.distinct c.len-distinct.ensures.limited
+    c.unwrap-id.result.0 c.unwrap-id.result.1 (sym c.unwrap-id.ensures ∙ c.at.ensures) q
+    c.in_ok-slot.slot
     (subst (λ (x : Content). Puts c.args.pool.now q c.in_ok-slot.slot x) c.get-kind.ensures c.in_ok-slot.ensures.puts)
     r new.entries c.add_held-added.ensures.stands
     c.add_held-added.ensures.others c.release.new.self c.release.ensures old new refl refl

@@ -3,10 +3,10 @@ use Rattle.std.proofs.lemmas.Bool.{false≢true}
 use Rattle.std.proofs.lemmas.List.{length-append}
 use Rattle.stream_lex.specs.Looking.{item_of}
 use Rattle.import_session.proofs.LentLemmas.{Keeps-refl, Keeps-then}
-use Rattle.tenant_stream.proofs.CarryLemmas.{Advanced-refl, Advances-read, reads_more, item_stops, tail_stops, ended, goes, take_on, took_item, gave_none, gave_fault}
+use Rattle.tenant_stream.proofs.CarryLemmas.{nothing_carried, reads_more, all_carried, tail_stops, carries_on, item_stops, took_item, gave_none, gave_fault}
 use Rattle.tenant_stream.proofs.CountLemmas.{taken_at_most, left_falls}
 use Rattle.tenant_stream.proofs.RoomLemmas.{room_left}
-use Rattle.tenant_stream.proofs.SoundLemmas.{advances_sound}
+use Rattle.tenant_stream.proofs.SoundLemmas.{stays_sound}
 use Rattle.tenant_stream.proofs.stream.carry.Goals as goal
 
 pub items-init : goal.items-init
@@ -16,13 +16,12 @@ items-init g c = record {
   items = [];
   reads = λ more. refl;
   counted = refl;
-  advanced = λ sound. Advanced-refl _ _ _ _;
+  carried_out = λ sound. nothing_carried _ _;
 }
 
 pub returns-then-is_done-clause-carries : goal.returns-then-is_done-clause-carries
 returns-then-is_done-clause-carries g c sound =
-    let so_far = c.items.invariant.advanced sound in
-    goes _ _ _ _ _ _ _ _ _ so_far.advances so_far.printed
+    all_carried _ _ _ _ (c.items.invariant.carried_out sound) _ (λ more. refl)
     (λ none. let t = c.if-is_done.ensures in absurd (false≢true (sym none ∙ sym t)))
 
 pub take-requires-clause-room : goal.take-requires-clause-room
@@ -31,15 +30,19 @@ take-requires-clause-room g c =
 
 pub returns-in-Err-take-clause-carries : goal.returns-in-Err-take-clause-carries
 returns-in-Err-take-clause-carries g c sound =
-    let so_far = c.items.invariant.advanced sound in
+    let so_far = c.items.invariant.carried_out sound in
     rw c.stop_of.ensures
-    (item_stops _ _ _ _ _ _ _ _ _ _ _ _ _ _
-    (ended _ _ _ _ _ _ _ _ _ _ _ so_far.advances so_far.printed
-    c.in-Err-take.ensures.printed (sym c.is_done.ensures ∙ c.if-is_done.false)
-    c.in-Err-take.ensures.checkpoint)
-    c.items.invariant.counted
+    (item_stops _ _ _ _ so_far _ _
     (took_item _ _ _ _ _ c.in-Ok-Some.is c.in-Ok-Some.field-0-is c.next.follows.holds-at-none.first)
-    (c.in-Err-take.ensures.taken (advances_sound _ g.met.N.Naming.answers_names _ _ _ _ _ _ so_far.advances sound)))
+    _ _
+    (record {
+      carried_out = so_far;
+      running = sym c.is_done.ensures ∙ c.if-is_done.false;
+      printed = c.in-Err-take.ensures.printed;
+      checkpoint = c.in-Err-take.ensures.checkpoint;
+    })
+    c.items.invariant.counted
+    (c.in-Err-take.ensures.taken (stays_sound _ g.met.N.Naming.answers_names _ _ _ so_far sound)))
 
 pub overflow_add-count : goal.overflow_add-count
 overflow_add-count g c =
@@ -67,25 +70,21 @@ items-preserved g c =
       reads = reads_more _ _ _ _ _ c.items.invariant.reads took;
       counted = length-append c.items.invariant.items (item_of c.in-Ok-Some.item ∷ [])
           ∙ ap (λ n. n + 1) c.items.invariant.counted;
-      advanced = λ sound.
-          let so_far = c.items.invariant.advanced sound in
-          take_on _ _ _ _ _ _ _ _ _ _ _ _ _ so_far.advances took so_far.printed
-          (c.in_default.ensures.taken (advances_sound _ g.met.N.Naming.answers_names _ _ _ _ _ _ so_far.advances sound));
+      carried_out = λ sound.
+          let so_far = c.items.invariant.carried_out sound in
+          carries_on _ _ _ _ so_far _ _ took
+          (c.in_default.ensures.taken (stays_sound _ g.met.N.Naming.answers_names _ _ _ so_far sound));
     }
 
 pub returns-in-Ok-None-clause-carries : goal.returns-in-Ok-None-clause-carries
 returns-in-Ok-None-clause-carries g c sound =
-    let so_far = c.items.invariant.advanced sound in
     let none = gave_none _ _ _ _ c.in-Ok-None.is c.in-Ok-None.field-0-is
     c.next.follows.holds-at-none.first in
-    goes _ _ _ _ _ _ _ _ _
-    (Advances-read _ _ _ _ _ _ _ _ so_far.advances none.0)
-    so_far.printed (λ _. none.1)
+    all_carried _ _ _ _ (c.items.invariant.carried_out sound) _ none.0 (λ _. none.1)
 
 pub returns-in-Err-clause-carries : goal.returns-in-Err-clause-carries
 returns-in-Err-clause-carries g c sound =
-    let so_far = c.items.invariant.advanced sound in
     rw c.code.ensures
-    (tail_stops _ _ _ _ _ _ _ _ _ _ so_far.advances so_far.printed
+    (tail_stops _ _ _ _ (c.items.invariant.carried_out sound) _ _
     (sym c.is_done.ensures ∙ c.if-is_done.false)
     (gave_fault _ _ _ _ c.in-Err.is c.next.follows.holds-at-none.first))

@@ -3,10 +3,9 @@ use Rattle.std.specs.Prelude.{length}
 use Rattle.std.proofs.lemmas.List.Elements.{All-head}
 use Rattle.std.proofs.lemmas.Result.{on_ok_weaker}
 use Rattle.git_paths.specs.Paths.{IsComponent, IsPath}
-use Rattle.tenant_tables.proofs.EntryLemmas.{position-found}
-use Rattle.tree_build.specs.Nodes.{held, shape_of, has_name}
+use Rattle.tree_build.specs.Nodes.{held, shape_of}
 use Rattle.tree_build.specs.Editing.{changed, has_opened}
-use Rattle.tree_build.proofs.Named.{entry_here, entry_is, shape_found, found_within, put_in_place}
+use Rattle.tree_build.proofs.Named.{node_found, put_in_place}
 use Rattle.file_maps.specs.FileMap.{Path}
 use Rattle.tree_build.specs.Shape.{Directory}
 use Rattle.tree_build.specs.Searches.{AreOrdered}
@@ -45,18 +44,12 @@ place-returns-in-None-clause-tree t c = search rules
 pub place_below-place_inside-requires : goal.place_below-place_inside-requires
 place_below-place_inside-requires t c =
     let d = c.decreases in
-    let at = c.in-Some.ensures.0 in
-    let opened = c.in-Some.ensures.1 in
-    let found = shape_found c.args.name.now c.args.entries.now.items c.in-Some.at
-    (position-found (has_name c.args.name.now) c.args.entries.now.items c.in-Some.at at)
-    (found_within (has_name c.args.name.now) c.args.entries.now.items c.in-Some.at at)
-    (entry_here c.args.entries.now.items c.in-Some.at c.node_mut.result.now) (sym (entry_is c.args.entries.now.items c.in-Some.at c.node_mut.result.now (found_within (has_name c.args.name.now) c.args.entries.now.items c.in-Some.at at) c.node_mut.ensures.value)) in (
+    let found = node_found c.args.name.now c.args.entries.now.items c.in-Some.at c.in-Some.ensures.0 c.node_mut.result.now c.node_mut.ensures.value in (
       omega arith,
       (
-        sym (ap has_opened found.0) ∙ opened,
+        sym (ap has_opened found.stands) ∙ c.in-Some.ensures.1,
         (
-          ordered_at c.args.entries.now.items c.in-Some.at (entry_here c.args.entries.now.items c.in-Some.at c.node_mut.result.now) (entry_is c.args.entries.now.items c.in-Some.at c.node_mut.result.now (found_within (has_name c.args.name.now) c.args.entries.now.items c.in-Some.at at) c.node_mut.ensures.value)
-              (found_within (has_name c.args.name.now) c.args.entries.now.items c.in-Some.at at) c.requires.ordered,
+          ordered_at c.args.entries.now.items c.in-Some.at _ found.is found.within c.requires.ordered,
           c.requires.rest,
         ),
       ),
@@ -68,15 +61,10 @@ place_below-place-requires t c =
 
 pub place_below-returns-in-Some : goal.place_below-returns-in-Some
 place_below-returns-in-Some t c =
-    let at = c.in-Some.ensures.0 in
-    let opened = c.in-Some.ensures.1 in
-    let found = shape_found c.args.name.now c.args.entries.now.items c.in-Some.at
-    (position-found (has_name c.args.name.now) c.args.entries.now.items c.in-Some.at at)
-    (found_within (has_name c.args.name.now) c.args.entries.now.items c.in-Some.at at)
-    (entry_here c.args.entries.now.items c.in-Some.at c.node_mut.result.now) (sym (entry_is c.args.entries.now.items c.in-Some.at c.node_mut.result.now (found_within (has_name c.args.name.now) c.args.entries.now.items c.in-Some.at at) c.node_mut.ensures.value)) in
+    let found = node_found c.args.name.now c.args.entries.now.items c.in-Some.at c.in-Some.ensures.0 c.node_mut.result.now c.node_mut.ensures.value in
     on_ok_weaker c.place_inside.result
-    (λ is. found.1 c.place_inside.new.at
+    (λ is. found.set c.place_inside.new.at
     ∙ ap (changed (shape_of c.args.entries.now.items) c.args.name.now) is
     ∙ put_in_place (shape_of c.args.entries.now.items) c.args.name.now c.args.rest.now (held c.args.node)
-    (held c.node_mut.result.now) c.requires.rest found.0 opened)
+    (held c.node_mut.result.now) c.requires.rest found.stands c.in-Some.ensures.1)
     c.place_inside.ensures

@@ -3,7 +3,7 @@ use Rattle.std.proofs.lemmas.Result.{err_from_is_err_and}
 use Rattle.std.specs.Borrow.{Bor}
 use Rattle.std.specs.Option.{option_map}
 use Rattle.revisions.specs.Expressions.{Expression}
-use Rattle.revisions.specs.Faults.{and_then}
+use Rattle.git_model.specs.Results.{and_then}
 use Rattle.revisions.proofs.ReadingSteps.{AreParts, last_read, with_base, no_base, read_as}
 use Rattle.revisions.proofs.Steps.{refused, went_on}
 use Rattle.revisions.proofs.expression.Expression.read.Goals as goal

@@ -1,7 +1,6 @@
-use Rattle.std.proofs.Common.{◌≡◌, ◌∙◌, List, IfOk, ap, map, refl, subst, sym}
+use Rattle.std.proofs.Common.{◌≡◌, ◌∙◌, List, IfOk, ap, map, refl, subst}
 use Rattle.pool_file_checks.specs.Repositories.{Named}
-use Rattle.pool_file.specs.declared.tenant_view.TenantView.{TenantView}
-use Rattle.pool_file.specs.Worth.{AllStand, to_save}
+use Rattle.pool_file.specs.Worth.{to_save}
 use Rattle.tenant_service.specs.Entries.{parts_of}
 use Rattle.tenant_service.specs.Saved.{saved_of}
 use Rattle.tenant_service.specs.Sizes.{Sizes, sizes_by, sizes_told}
@@ -12,10 +11,8 @@ use Rattle.tenant_service.proofs.service.Service.sizes.Goals as goal
 
 pub sizes_of_saved-requires : goal.sizes_of_saved-requires
 sizes_of_saved-requires g c =
-    subst (λ (lent : List TenantView). AllStand g.N.Naming.digest_of c.self.inside.pool lent)
-    (sym c.deref.ensures.value)
-    (all-stand parts_of (λ e. refl) g.N.Naming.digest_of c.self.inside.pool c.self.inside.tenants.entries
-    c.in_ok-lent.lent.items c.self.invariant.accounts.stands c.in_ok-lent.ensures)
+    rw c.deref.ensures.value
+    (all-stand parts_of (λ e. refl) _ _ _ _ c.self.invariant.accounts.stands c.in_ok-lent.ensures)
 
 pub returns : goal.returns
 returns g c =

@@ -17,21 +17,11 @@ returns-in_err-place c =
 pub returns-then-place-committed_len : goal.returns-then-place-committed_len
 unfolding entry_named
 returns-then-place-committed_len c =
-    let same = c.committed_len.ensures.value in
-    let front =
-    lookup-take-found
-    (bytes_eq c.args.id.now) c.committed_len.result c.in_ok-place.place c.args.self.now.entries
-    (sym c.in_ok-place.ensures.place) in
     let here : nat_lt c.in_ok-place.place c.committed_len.result ≡ true = grind (arith, nat_tests) in
-    rw (← same, front, here, ← c.in_ok-place.ensures.entry) refl
+    rw (← c.committed_len.ensures.value, lookup-take-found (bytes_eq c.args.id.now) c.committed_len.result c.in_ok-place.place c.args.self.now.entries (sym c.in_ok-place.ensures.place), here, ← c.in_ok-place.ensures.entry) refl
 
 pub returns-else-place-committed_len : goal.returns-else-place-committed_len
 unfolding entry_named
 returns-else-place-committed_len c =
-    let same = c.committed_len.ensures.value in
-    let front =
-    lookup-take-found
-    (bytes_eq c.args.id.now) c.committed_len.result c.in_ok-place.place c.args.self.now.entries
-    (sym c.in_ok-place.ensures.place) in
     let past : nat_lt c.in_ok-place.place c.committed_len.result ≡ false = grind (arith, nat_tests) in
-    rw (← same, front, past) refl
+    rw (← c.committed_len.ensures.value, lookup-take-found (bytes_eq c.args.id.now) c.committed_len.result c.in_ok-place.place c.args.self.now.entries (sym c.in_ok-place.ensures.place), past) refl

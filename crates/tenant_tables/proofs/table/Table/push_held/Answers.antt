@@ -1,15 +1,9 @@
-use Rattle.std.proofs.Common.{ap}
-use Rattle.tenant_tables.specs.View.{View}
 use Rattle.tenant_tables.proofs.Joined.{IsTable-push, new_own}
 use Rattle.tenant_tables.proofs.table.Table.push_held.Goals as goal
 
 pub push-requires : goal.push-requires
-push-requires g c =
-    new_own c.args.id c.self.inside.front c.self.inside.own.entries c.args.self.now.entries
-    (ap (λ (v : View). v.entries) c.self.view_is) c.requires.new
+push-requires g c = new_own c.args.id _ _ _ _ c.self.view_is c.requires.new
 
 pub invariant_of-self-2 : goal.invariant_of-self-2
 invariant_of-self-2 g c =
-    let seen = ap (λ (v : View). v.entries) c.self.view_is in
-    rw c.in_ok-push.ensures.ok
-    (IsTable-push _ _ _ _ _ c.self.invariant (rw seen c.requires.spare) (rw seen c.requires.new))
+    rw c.in_ok-push.ensures.ok (IsTable-push _ _ _ _ _ _ c.self.view_is c.self.invariant c.requires.spare c.requires.new)

@@ -6,7 +6,7 @@ use Rattle.tenant_tables.specs.Objects.{objects}
 use Rattle.file_maps.specs.declared.fault.Fault.{Fault}
 use Rattle.file_maps.specs.Edits.{files_at, moved, copied}
 use Rattle.tree_build.specs.Branch.{files_in}
-use Rattle.tree_build.proofs.Moves.{few-moved, good-put, another, refused, edits-copied}
+use Rattle.tree_build.proofs.Moves.{few-moved, good-put, refused, edits-copied}
 use Rattle.tree_build.proofs.files.Files.copy.Goals as goal
 
 pub returns-in_err-node-clause-edits : goal.returns-in_err-node-clause-edits
@@ -18,11 +18,7 @@ returns-in_err-node-clause-edits g c =
     (failed.1 ∙ ap (λ (e : Fault). Err e) failed.2)
     old (files_in os c.copy_from.new.self) (moved c.args.to.now (files_at old c.args.from.now))
     (copied old c.args.from.now c.args.to.now)
-    (λ memory. (
-      c.in_err-node.ensures.refusal memory,
-      c.in_err-node.ensures.files
-          (another c.in_err-node.field-0.0 memory),
-    ))
+    c.in_err-node.ensures.refusal c.in_err-node.ensures.files
 
 pub put_moved-requires-clause-few : goal.put_moved-requires-clause-few
 put_moved-requires-clause-few g c =

@@ -2,6 +2,7 @@ use Rattle.std.proofs.Common.{◌≡◌, ◌≢◌, ℕ, length, sym, ap, ◌∙
 use Rattle.std.specs.Prelude.{Some, Result, Err, IfErr}
 use Rattle.std.proofs.lemmas.Result.{err_from_is_err_and}
 use Rattle.tenant_tables.specs.Objects.{objects}
+use Rattle.tenant_tables.specs.declared.summary.Summary.{Summary}
 use Rattle.file_maps.specs.declared.fault.Fault.{Fault}
 use Rattle.file_maps.specs.declared.fault.Fault.TheVariants as fault
 use Rattle.file_maps.specs.Edits.{files_at, moved}
@@ -11,10 +12,11 @@ use Rattle.tree_build.specs.Branch.{Branch, files_in, IsBranch, closed_from}
 use Rattle.tree_build.specs.Nodes.{held}
 use Rattle.tree_build.specs.Sums.{IsSmall}
 use Rattle.tree_build.specs.Moving.{path_fault}
-use Rattle.tree_build.proofs.Moved.{nothing-there, found, fault-there}
-use Rattle.tenant_tables.specs.declared.summary.Summary.{Summary}
+use Rattle.tree_build.proofs.Moved.{IsThere, nothing-there, found, fault-there}
 use Rattle.tree_build.proofs.Searched.{ordered_held}
 use Rattle.tree_build.proofs.files.Files.copy_from.Goals as goal
+use Rattle.tree_build.proofs.files.Files.copy_from.Goals.{In-Some}
+use Rattle.tree_build.proofs.files.Files.copy_from.Given.{Over}
 
 pub copy_at-requires : goal.copy_at-requires
 copy_at-requires g c =
@@ -25,57 +27,39 @@ pub returns-in_default-clause-refusal : goal.returns-in_default-clause-refusal
 returns-in_default-clause-refusal g c = λ _.
     let os = objects c.args.pool.now c.args.table.now.entries in
     let b = subst (IsBranch os) (sym c.self.view_is) c.in_ok-open_to.ensures.branch in
-    let shut = subst (λ (x : Branch). closed_from x.root c.components-from.result ≡ 0)
-    (sym c.self.view_is) c.in_ok-open_to.ensures.shut in
-    let same = ap (files_in os) c.self.view_is ∙ c.in_ok-open_to.ensures.files in
+    let shut = subst (λ (x : Branch). closed_from x.root c.components-from.result ≡ 0) (sym c.self.view_is) c.in_ok-open_to.ensures.shut in
     ap (λ (l : Listed). path_fault (moved c.args.to.now l))
-    (nothing-there g.N.Naming.digest_of c.args.pool.now c.args.table.now.entries c.requires.stands _ b c.components-from.result shut
-    _ same c.args.from.now c.components-from.ensures c.in_ok-node.field-0 c.in_default.is c.in_ok-node.ensures)
+    (nothing-there g.N.Naming.digest_of c.args.pool.now c.args.table.now.entries c.requires.stands b c.components-from.result shut
+    (ap (files_in os) c.self.view_is ∙ c.in_ok-open_to.ensures.files) c.components-from.ensures
+    c.in_ok-node.field-0 c.in_default.is c.in_ok-node.ensures)
+
+-- the copy
+copy : (g : Over) (c : In-Some g)
+    → (let os = objects c.args.pool.now c.args.table.now.entries in
+    IsThere os (files_at (files_in os c.args.self.now) c.args.from.now) (held c.in-Some.node))
+copy g c =
+    let os = objects c.args.pool.now c.args.table.now.entries in
+    let b = subst (IsBranch os) (sym c.self.view_is) c.in_ok-open_to.ensures.branch in
+    let shut = subst (λ (x : Branch). closed_from x.root c.components-from.result ≡ 0) (sym c.self.view_is) c.in_ok-open_to.ensures.shut in
+    found g.N.Naming.digest_of c.args.pool.now c.args.table.now.entries c.requires.stands b c.components-from.result shut
+    (ap (files_in os) c.self.view_is ∙ c.in_ok-open_to.ensures.files) c.components-from.ensures
+    c.in_ok-node.field-0 c.in-Some.node c.in-Some.is c.in_ok-node.ensures
 
 pub extent-files-requires-clause-sound : goal.extent-files-requires-clause-sound
-extent-files-requires-clause-sound g c =
-    let os = objects c.args.pool.now c.args.table.now.entries in
-    let b = subst (IsBranch os) (sym c.self.view_is) c.in_ok-open_to.ensures.branch in
-    let shut = subst (λ (x : Branch). closed_from x.root c.components-from.result ≡ 0)
-    (sym c.self.view_is) c.in_ok-open_to.ensures.shut in
-    let same = ap (files_in os) c.self.view_is ∙ c.in_ok-open_to.ensures.files in
-    let x = found g.N.Naming.digest_of c.args.pool.now c.args.table.now.entries c.requires.stands _ b c.components-from.result shut
-    _ same c.args.from.now c.components-from.ensures c.in_ok-node.field-0 c.in-Some.node c.in-Some.is c.in_ok-node.ensures in
-    x.0
+extent-files-requires-clause-sound g c = (copy g (goal.at.extent-files-requires-clause-sound g c).In-Some).held
 
 pub extent-files-requires-clause-small : goal.extent-files-requires-clause-small
-extent-files-requires-clause-small g c =
-    let os = objects c.args.pool.now c.args.table.now.entries in
-    let b = subst (IsBranch os) (sym c.self.view_is) c.in_ok-open_to.ensures.branch in
-    let shut = subst (λ (x : Branch). closed_from x.root c.components-from.result ≡ 0)
-    (sym c.self.view_is) c.in_ok-open_to.ensures.shut in
-    let same = ap (files_in os) c.self.view_is ∙ c.in_ok-open_to.ensures.files in
-    let x = found g.N.Naming.digest_of c.args.pool.now c.args.table.now.entries c.requires.stands _ b c.components-from.result shut
-    _ same c.args.from.now c.components-from.ensures c.in_ok-node.field-0 c.in-Some.node c.in-Some.is c.in_ok-node.ensures in
-    x.1.1
+extent-files-requires-clause-small g c = (copy g (goal.at.extent-files-requires-clause-small g c).In-Some).small
 
 pub check_move-requires : goal.check_move-requires
 check_move-requires g c =
-    let os = objects c.args.pool.now c.args.table.now.entries in
-    let b = subst (IsBranch os) (sym c.self.view_is) c.in_ok-open_to.ensures.branch in
-    let shut = subst (λ (x : Branch). closed_from x.root c.components-from.result ≡ 0)
-    (sym c.self.view_is) c.in_ok-open_to.ensures.shut in
-    let same = ap (files_in os) c.self.view_is ∙ c.in_ok-open_to.ensures.files in
-    let x = found g.N.Naming.digest_of c.args.pool.now c.args.table.now.entries c.requires.stands _ b c.components-from.result shut
-    _ same c.args.from.now c.components-from.ensures c.in_ok-node.field-0 c.in-Some.node c.in-Some.is c.in_ok-node.ensures in
-    subst IsSmall (sym c.extent-files.ensures) x.1.1
+    subst IsSmall (sym c.extent-files.ensures) (copy g (goal.at.check_move-requires g c).In-Some).small
 
 pub returns-in_err-check_move-clause-refusal : goal.returns-in_err-check_move-clause-refusal
 returns-in_err-check_move-clause-refusal g c =
     let os = objects c.args.pool.now c.args.table.now.entries in
-    let b = subst (IsBranch os) (sym c.self.view_is) c.in_ok-open_to.ensures.branch in
-    let shut = subst (λ (x : Branch). closed_from x.root c.components-from.result ≡ 0)
-    (sym c.self.view_is) c.in_ok-open_to.ensures.shut in
-    let same = ap (files_in os) c.self.view_is ∙ c.in_ok-open_to.ensures.files in
-    let x = found g.N.Naming.digest_of c.args.pool.now c.args.table.now.entries c.requires.stands _ b c.components-from.result shut
-    _ same c.args.from.now c.components-from.ensures c.in_ok-node.field-0 c.in-Some.node c.in-Some.is c.in_ok-node.ensures in
-    let why = fault-there os
-    (held c.in-Some.node) x.0 c.args.to.now _ x.1.0 c.extent-files.result c.extent-files.ensures in
+    let there = copy g (goal.at.returns-in_err-check_move-clause-refusal g c).In-Some in
+    let why = fault-there there c.args.to.now c.extent-files.result c.extent-files.ensures in
     let failed = err_from_is_err_and c.from_residual-in_err-check_move.result c.from_residual-in_err-check_move.ensures.1 in
     subst
     (λ (r : Result (Node × ℕ) Fault). IfErr r (λ e. e ≢ fault.Memory
@@ -86,29 +70,13 @@ returns-in_err-check_move-clause-refusal g c =
 
 pub returns-clause-moved : goal.returns-clause-moved
 returns-clause-moved g c =
-    let os = objects c.args.pool.now c.args.table.now.entries in
-    let b = subst (IsBranch os) (sym c.self.view_is) c.in_ok-open_to.ensures.branch in
-    let shut = subst (λ (x : Branch). closed_from x.root c.components-from.result ≡ 0)
-    (sym c.self.view_is) c.in_ok-open_to.ensures.shut in
-    let same = ap (files_in os) c.self.view_is ∙ c.in_ok-open_to.ensures.files in
-    let x = found g.N.Naming.digest_of c.args.pool.now c.args.table.now.entries c.requires.stands _ b c.components-from.result shut
-    _ same c.args.from.now c.components-from.ensures c.in_ok-node.field-0 c.in-Some.node c.in-Some.is c.in_ok-node.ensures in
-    record {
-      held = x.0;
-      files = x.1.0;
-      count = ap (λ (s : Summary). s.files) c.extent-files.ensures
-          ∙ ap (λ (l : Listed). length l) x.1.0;
+    let there = copy g (goal.at.returns-clause-moved g c).In-Some in record {
+      held = there.held;
+      files = there.files;
+      count = ap (λ (s : Summary). s.files) c.extent-files.ensures ∙ ap (λ (l : Listed). length l) there.files;
     }
 
 pub returns-clause-clean : goal.returns-clause-clean
 returns-clause-clean g c =
-    let os = objects c.args.pool.now c.args.table.now.entries in
-    let b = subst (IsBranch os) (sym c.self.view_is) c.in_ok-open_to.ensures.branch in
-    let shut = subst (λ (x : Branch). closed_from x.root c.components-from.result ≡ 0)
-    (sym c.self.view_is) c.in_ok-open_to.ensures.shut in
-    let same = ap (files_in os) c.self.view_is ∙ c.in_ok-open_to.ensures.files in
-    let x = found g.N.Naming.digest_of c.args.pool.now c.args.table.now.entries c.requires.stands _ b c.components-from.result shut
-    _ same c.args.from.now c.components-from.ensures c.in_ok-node.field-0 c.in-Some.node c.in-Some.is c.in_ok-node.ensures in
-    let why = fault-there os
-    (held c.in-Some.node) x.0 c.args.to.now _ x.1.0 c.extent-files.result c.extent-files.ensures in
-    sym why ∙ c.in_ok-check_move.ensures.ok
+    let there = copy g (goal.at.returns-clause-clean g c).In-Some in
+    sym (fault-there there c.args.to.now c.extent-files.result c.extent-files.ensures) ∙ c.in_ok-check_move.ensures.ok

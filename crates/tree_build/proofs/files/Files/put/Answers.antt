@@ -5,9 +5,9 @@ use Rattle.git_paths.specs.Paths.{is_within_limits}
 use Rattle.tenant_tables.specs.Objects.{objects}
 use Rattle.file_maps.specs.Edits.{put_at}
 use Rattle.tree_build.specs.Branch.{files_in}
-use Rattle.tree_build.proofs.Puts.{root_fault, long_fault, one_good, edits_put}
+use Rattle.tree_build.specs.Putting.{file_held}
+use Rattle.tree_build.proofs.Puts.{root_fault, long_fault, one_good, edits_put, may_put}
 use Rattle.tree_build.proofs.Branches.{branch_few}
-use Rattle.tree_build.proofs.Taken.{recount}
 use Rattle.tree_build.proofs.OpenStays.{on_ok_both, open_file}
 use Rattle.tree_build.proofs.files.Files.put.Goals as goal
 
@@ -49,14 +49,17 @@ returns-then-file_count-lt-FILES_LIMIT-clause-edits g c =
     (sym c.is_short.ensures ∙ c.if-not-is_short.false)
     c.put_file.ensures.edits
 
-pub put_node-requires-clause-good : goal.put_node-requires-clause-good
-put_node-requires-clause-good g c =
+pub put_node-requires-clause-may : goal.put_node-requires-clause-may
+put_node-requires-clause-may g c =
     let os = objects c.args.pool.now c.args.table.now.entries in
-    one_good os c.open_to.new.self c.in_ok-open_to.ensures.branch c.components-path.result c.args.entry
+    may_put c.in_ok-open_to.ensures.branch c.components-path.result c.in_ok-open_to.ensures.shut (file_held c.args.entry)
+    ((c.requires.file, c.has_twenty_bytes.ensures), tt) (λ none. cc none) _
+    (ap (λ (n : ℕ). n + 1) c.file_count-total.ensures)
+    (one_good os c.open_to.new.self c.in_ok-open_to.ensures.branch c.components-path.result c.args.entry
     (λ e. no_path (c.is_root.ensures.1 (sym c.components-path.ensures ∙ e)) c.if-is_root.false)
     c.has_components.ensures
     (ap is_within_limits c.components-path.ensures ∙ sym c.is_short.ensures ∙ c.if-not-is_short.false)
-    c.requires.file c.has_twenty_bytes.ensures
+    c.requires.file c.has_twenty_bytes.ensures)
 
 pub returns-clause-edits : goal.returns-clause-edits
 returns-clause-edits g c =
@@ -65,13 +68,13 @@ returns-clause-edits g c =
     c.in_ok-open_to.ensures.files c.components-path.result c.args.path.now c.components-path.ensures c.args.entry
     (λ e. no_path (c.is_root.ensures.1 e) c.if-is_root.false)
     (sym c.is_short.ensures ∙ c.if-not-is_short.false)
-    c.put_node.ensures.edits
+    c.put_node.ensures.puts.edits
 
 pub returns-clause-open : goal.returns-clause-open
 returns-clause-open g c =
     on_ok_both c.put_node.result
     (open_file c.args.self.now.root c.open_to.new.self.root c.put_node.new.self.root c.components-path.result c.args.entry c.in_ok-open_to.ensures.«open»)
-    c.put_node.ensures.«open» c.put_node.ensures.there
+    c.put_node.ensures.puts.stays c.put_node.ensures.there
 
 pub overflow_add-total : goal.overflow_add-total
 overflow_add-total g c =
@@ -81,14 +84,5 @@ overflow_add-total g c =
     let all = c.file_count-total.ensures ∙ b.counted in
     omega arith
 
-pub put_node-requires-clause-branch : goal.put_node-requires-clause-branch
-put_node-requires-clause-branch g c =
-    recount (objects c.args.pool.now c.args.table.now.entries) c.open_to.new.self c.in_ok-open_to.ensures.branch
-    c.open_to.new.self.files c.open_to.new.self.reads
-
-pub put_node-requires-clause-total : goal.put_node-requires-clause-total
-put_node-requires-clause-total g c =
-    ap (λ (n : ℕ). n + 1) (c.file_count-total.ensures ∙ c.in_ok-open_to.ensures.branch.counted)
-
 pub returns-clause-branch : goal.returns-clause-branch
-returns-clause-branch g c = λ ne. c.put_node.ensures.still ne c.in_ok-open_to.ensures.branch
+returns-clause-branch g c = λ ne. c.put_node.ensures.puts.still ne c.in_ok-open_to.ensures.branch

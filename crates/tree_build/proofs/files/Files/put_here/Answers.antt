@@ -1,72 +1,44 @@
-use Rattle.std.proofs.Common.{◌≡◌, ◌≤◌, ◌+◌, ◌-◌, ℕ, length, sym, ap, ◌∙◌, subst, arith}
+use Rattle.std.proofs.Common.{◌≡◌, ◌≤◌, ◌+◌, ◌-◌, length, sym, ap, ◌∙◌, subst, arith}
 use Rattle.tenant_tables.specs.Objects.{objects}
 use Rattle.file_maps.specs.StoredFiles.{stored_files}
 use Rattle.tree_build.specs.Shape.{held_files}
-use Rattle.tree_build.specs.Branch.{Branch, root_files, files_in, IsHeld}
+use Rattle.tree_build.specs.Branch.{Branch, root_files, IsHeld}
 use Rattle.tree_build.specs.Nodes.{held}
 use Rattle.tree_build.specs.Opened.{recounted}
 use Rattle.tree_build.proofs.Branches.{branch_few}
-use Rattle.tree_build.proofs.Moved.{no_components, root-edits, root-branch}
+use Rattle.tree_build.proofs.Moved.{no_components, puts_root}
 use Rattle.tree_build.proofs.files.Files.put_here.Goals as goal
+use Rattle.tree_build.proofs.files.Files.put_here.Goals.{After-count}
+use Rattle.tree_build.proofs.files.Files.put_here.Given.{Over}
 
 pub count-requires-clause-sound : goal.count-requires-clause-sound
 count-requires-clause-sound g c =
     let os = objects c.args.pool.now c.args.table.now.entries in
-    subst (λ (x : Branch). IsHeld os x.root) (sym c.self.view_is) c.requires.branch.held
+    subst (λ (x : Branch). IsHeld os x.root) (sym c.self.view_is) c.requires.may.branch.held
 
 pub count-requires-clause-few : goal.count-requires-clause-few
 count-requires-clause-few g c =
     let os = objects c.args.pool.now c.args.table.now.entries in
     subst (λ (x : Branch). length (root_files os x) ≤ 1048576) (sym c.self.view_is)
-    (branch_few os (recounted os c.args.self.now) c.requires.branch)
+    (branch_few os (recounted os c.args.self.now) c.requires.may.branch)
 
-pub overflow_sub-files : goal.overflow_sub-files
-overflow_sub-files g c =
+-- all files but those of the node go
+all : (g : Over) (c : After-count g)
+    → c.args.total ≡ c.count.result
+    + length (held_files (stored_files (objects c.args.pool.now c.args.table.now.entries)) (held c.args.node))
+all g c =
     let os = objects c.args.pool.now c.args.table.now.entries in
-    let all : c.args.total ≡ length (held_files (stored_files os) (held c.self.inside.root))
-    + length (held_files (stored_files os) (held c.args.node)) = c.requires.total
-    ∙ ap (λ (x : Branch). length (root_files os x) + length (held_files (stored_files os) (held c.args.node))) (sym c.self.view_is) in
-    let gone : c.count.result ≡ length (held_files (stored_files os) (held c.self.inside.root)) = c.count.ensures in
+    let before = c.requires.may.counted in
+    let same = ap (λ (x : Branch). length (root_files os x)) c.self.view_is in
+    let goes = c.count.ensures in
     omega arith
 
-pub returns-then-len-eq0-clause-edits : goal.returns-then-len-eq0-clause-edits
-returns-then-len-eq0-clause-edits g c =
-    let os = objects c.args.pool.now c.args.table.now.entries in
-    let all : c.args.total ≡ length (held_files (stored_files os) (held c.self.inside.root))
-    + length (held_files (stored_files os) (held c.args.node)) = c.requires.total
-    ∙ ap (λ (x : Branch). length (root_files os x) + length (held_files (stored_files os) (held c.args.node))) (sym c.self.view_is) in
-    let gone : c.count.result ≡ length (held_files (stored_files os) (held c.self.inside.root)) = c.count.ensures in
-    let left : c.args.total - c.count.result ≡ length (held_files (stored_files os) (held c.args.node)) = omega arith in
-    let few = subst (λ (n : ℕ). n ≤ 1048576) (sym left) c.requires.few in
-    let root = no_components c.args.to.now (sym c.len.ensures ∙ c.if-len-eq0.true) in
-    root-edits os (files_in os c.args.self.now)
-    (held c.args.node) c.requires.held (c.args.total - c.count.result) left few
-    c.self.inside.reads c.args.to.now root
+pub overflow_sub-files : goal.overflow_sub-files
+overflow_sub-files g c = let n = all g (goal.at.overflow_sub-files g c).After-count in omega arith
 
-pub returns-then-len-eq0-clause-branch : goal.returns-then-len-eq0-clause-branch
-returns-then-len-eq0-clause-branch g c =
-    let os = objects c.args.pool.now c.args.table.now.entries in
-    let all : c.args.total ≡ length (held_files (stored_files os) (held c.self.inside.root))
-    + length (held_files (stored_files os) (held c.args.node)) = c.requires.total
-    ∙ ap (λ (x : Branch). length (root_files os x) + length (held_files (stored_files os) (held c.args.node))) (sym c.self.view_is) in
-    let gone : c.count.result ≡ length (held_files (stored_files os) (held c.self.inside.root)) = c.count.ensures in
-    let left : c.args.total - c.count.result ≡ length (held_files (stored_files os) (held c.args.node)) = omega arith in
-    let few = subst (λ (n : ℕ). n ≤ 1048576) (sym left) c.requires.few in
+pub returns-then-len-eq0 : goal.returns-then-len-eq0
+returns-then-len-eq0 g c =
+    let n = all g (goal.at.returns-then-len-eq0 g c).After-count in
     let root = no_components c.args.to.now (sym c.len.ensures ∙ c.if-len-eq0.true) in
-    root-branch os (files_in os c.args.self.now)
-    (held c.args.node) c.requires.held (c.args.total - c.count.result) left few
-    c.self.inside.reads c.args.to.now root (c.requires.directory root) c.requires.good
-
-pub returns-then-len-eq0-clause-still : goal.returns-then-len-eq0-clause-still
-returns-then-len-eq0-clause-still g c = λ _ _.
-    let os = objects c.args.pool.now c.args.table.now.entries in
-    let all : c.args.total ≡ length (held_files (stored_files os) (held c.self.inside.root))
-    + length (held_files (stored_files os) (held c.args.node)) = c.requires.total
-    ∙ ap (λ (x : Branch). length (root_files os x) + length (held_files (stored_files os) (held c.args.node))) (sym c.self.view_is) in
-    let gone : c.count.result ≡ length (held_files (stored_files os) (held c.self.inside.root)) = c.count.ensures in
-    let left : c.args.total - c.count.result ≡ length (held_files (stored_files os) (held c.args.node)) = omega arith in
-    let few = subst (λ (n : ℕ). n ≤ 1048576) (sym left) c.requires.few in
-    let root = no_components c.args.to.now (sym c.len.ensures ∙ c.if-len-eq0.true) in
-    root-branch os (files_in os c.args.self.now)
-    (held c.args.node) c.requires.held (c.args.total - c.count.result) left few
-    c.self.inside.reads c.args.to.now root (c.requires.directory root) c.requires.good
+    puts_root c.requires.may (c.requires.directory root) c.requires.few (c.args.total - c.count.result) (omega arith)
+    c.self.inside.reads (ap (λ (x : Branch). x.reads) c.self.view_is) root

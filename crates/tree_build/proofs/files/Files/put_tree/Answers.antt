@@ -1,18 +1,18 @@
-use Rattle.std.proofs.Common.{ℕ, ◌+◌, length, sym, ap, ◌∙◌, arith}
+use Rattle.std.proofs.Common.{◌≡◌, ℕ, ◌+◌, length, sym, ap, ◌∙◌, arith}
 use Rattle.std.specs.FinMap as finmap
 use Rattle.git_paths.specs.Paths.{strip_prefix}
 use Rattle.tenant_tables.specs.Objects.{objects}
-use Rattle.file_maps.specs.FileMap.{Path, FileMap, is_apart}
+use Rattle.file_maps.specs.FileMap.{Path, Listed, FileMap, is_apart}
 use Rattle.file_maps.specs.Storable.{files_summary}
 use Rattle.file_maps.specs.StoredFiles.{stored_files}
 use Rattle.std.proofs.lemmas.Result.{on_ok_weaker}
 use Rattle.tree_build.specs.declared.dir.Node.TheVariants.{Unopened}
-use Rattle.tree_build.specs.Branch.{root_files, files_in}
+use Rattle.tree_build.specs.Branch.{files_in}
 use Rattle.tree_build.specs.Limits.{may_stand}
 use Rattle.tree_build.specs.Nodes.{held}
 use Rattle.tree_build.proofs.Limits.{put_good, edits_fit, few_stand}
 use Rattle.tree_build.proofs.Branches.{branch_few}
-use Rattle.tree_build.proofs.Taken.{recount}
+use Rattle.tree_build.proofs.Puts.{may_put}
 use Rattle.tree_build.proofs.Grafted.{none_put, placeable}
 use Rattle.tree_build.proofs.files.Files.put_tree.Goals as goal
 
@@ -27,15 +27,20 @@ returns-then-files-eq0-clause-edits g c =
     ∙ ap (λ (p : Path). finmap.retain_keys (files_in os c.args.self.now) (is_apart p))
     c.components-path.ensures)
 
-pub put_node-requires-clause-good : goal.put_node-requires-clause-good
-put_node-requires-clause-good g c =
+pub put_node-requires-clause-may : goal.put_node-requires-clause-may
+put_node-requires-clause-may g c =
     let os = objects c.args.pool.now c.args.table.now.entries in
-    put_good os c.open_to.new.self c.in_ok-open_to.ensures.branch c.components-path.result
+    may_put c.in_ok-open_to.ensures.branch c.components-path.result c.in_ok-open_to.ensures.shut (held (Unopened c.args.name.now)) (c.requires.tree, tt)
+    (λ none. let n : length (stored_files os c.args.name.now) ≡ 0 = ap (λ (l : Listed). length l) none in
+    let all = c.requires.files in
+    let some = c.if-files-eq0.false in omega arith) _
+    (ap (λ (n : ℕ). n + c.args.files) c.file_count.ensures ∙ ap (λ (n : ℕ). c.open_to.new.self.files + n) c.requires.files)
+    (put_good os c.open_to.new.self c.in_ok-open_to.ensures.branch c.components-path.result
     (held (Unopened c.args.name.now)) c.has_components.ensures
     (placeable g.N.Naming.digest_of c.args.pool.now c.args.table.now.entries c.requires.stands
     c.args.name.now c.requires.tree)
     (ap (λ (p : Path). may_stand p (files_summary (stored_files os c.args.name.now)))
-    c.components-path.ensures ∙ c.requires.fits)
+    c.components-path.ensures ∙ c.requires.fits))
 
 pub returns-clause-edits : goal.returns-clause-edits
 returns-clause-edits g c =
@@ -45,7 +50,7 @@ returns-clause-edits g c =
     c.args.path.now c.components-path.ensures (stored_files os c.args.name.now)
     (placeable g.N.Naming.digest_of c.args.pool.now c.args.table.now.entries c.requires.stands
     c.args.name.now c.requires.tree).sound
-    c.requires.fits c.put_node.ensures.edits
+    c.requires.fits c.put_node.ensures.puts.edits
 
 pub returns-then-files-eq0-clause-open : goal.returns-then-files-eq0-clause-open
 returns-then-files-eq0-clause-open g c =
@@ -58,7 +63,7 @@ returns-clause-open g c =
     (λ put q apart. let opened = c.in_ok-open_to.ensures.«open» q in
     let there = put q (ap (λ (p : Path). strip_prefix p q) c.components-path.ensures ∙ apart) in
     omega arith)
-    c.put_node.ensures.«open»
+    c.put_node.ensures.puts.stays
 
 pub overflow_add-total : goal.overflow_add-total
 overflow_add-total g c =
@@ -70,16 +75,5 @@ overflow_add-total g c =
     let files = c.requires.files in
     omega arith
 
-pub put_node-requires-clause-branch : goal.put_node-requires-clause-branch
-put_node-requires-clause-branch g c =
-    recount (objects c.args.pool.now c.args.table.now.entries) c.open_to.new.self c.in_ok-open_to.ensures.branch
-    c.open_to.new.self.files c.open_to.new.self.reads
-
-pub put_node-requires-clause-total : goal.put_node-requires-clause-total
-put_node-requires-clause-total g c =
-    let os = objects c.args.pool.now c.args.table.now.entries in
-    ap (λ (n : ℕ). n + c.args.files) (c.file_count.ensures ∙ c.in_ok-open_to.ensures.branch.counted)
-    ∙ ap (λ (n : ℕ). length (root_files os c.open_to.new.self) + n) c.requires.files
-
 pub returns-clause-branch : goal.returns-clause-branch
-returns-clause-branch g c = λ ne. c.put_node.ensures.still ne c.in_ok-open_to.ensures.branch
+returns-clause-branch g c = λ ne. c.put_node.ensures.puts.still ne c.in_ok-open_to.ensures.branch

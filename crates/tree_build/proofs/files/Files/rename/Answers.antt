@@ -8,7 +8,7 @@ use Rattle.file_maps.specs.Edits.{files_at, moved, renamed, move_fault}
 use Rattle.file_maps.specs.FileMap.{FileMap}
 use Rattle.tree_build.specs.Branch.{files_in}
 use Rattle.tree_build.specs.Moving.{path_fault}
-use Rattle.tree_build.proofs.Moves.{another, refused}
+use Rattle.tree_build.proofs.Moves.{refused}
 use Rattle.tree_build.proofs.files.Files.rename.Goals as goal
 
 pub returns-in_err-open_source-clause-edits : goal.returns-in_err-open_source-clause-edits
@@ -20,11 +20,7 @@ returns-in_err-open_source-clause-edits g c =
     (failed.1 ∙ ap (λ (e : Fault). Err e) failed.2)
     old (files_in os c.open_source.new.self) (moved c.args.to.now (files_at old c.args.from.now))
     (renamed old c.args.from.now c.args.to.now)
-    (λ memory. (
-      c.in_err-open_source.ensures.refusal memory,
-      c.in_err-open_source.ensures.files
-          (another c.in_err-open_source.field-0.0 memory),
-    ))
+    c.in_err-open_source.ensures.refusal c.in_err-open_source.ensures.files
 
 pub move_source-requires-clause-clean : goal.move_source-requires-clause-clean
 move_source-requires-clause-clean g c =

@@ -1,20 +1,30 @@
--- Flags that names set, by the places of their objects.
-use Rattle.std.proofs.Common.{◌≡◌, ℕ, zero, suc, ◌<◌, ◌≤◌, Bool, true, false, List, [], ◌∷◌, length, get_or, set, replicate, All, Option, inl, inr, ◌⊎◌, refl, sym, ap, subst, ◌∙◌, arith}
+-- Flags that names set by the places of their objects, and which objects some names lead to.
+use Rattle.std.proofs.Common.{◌≡◌, ℕ, zero, suc, ◌<◌, ◌≤◌, Bool, true, false, List, [], ◌∷◌, ◌++◌, length, get_or, set, replicate, All, Option, inl, inr, ◌⊎◌, ◌↔◌, refl, sym, ap, subst, ◌∙◌, arith}
 use Rattle.std.specs.Prelude.{IsTrue, map, unwrap_or}
-use Rattle.std.specs.List.{Contains}
-use Rattle.std.proofs.lemmas.Bool.{cases_Bool}
-use Rattle.std.proofs.lemmas.List.{length-replicate}
+use Rattle.std.specs.List.{Contains, list_any}
+use Rattle.std.proofs.lemmas.Bool.{or_cases, or_left, or_right}
+use Rattle.std.proofs.lemmas.List.{length-set, length-replicate}
 use Rattle.std.proofs.lemmas.List.Elements.{All-nil, All-cons, All-contains, All-weaker}
 use Rattle.git_model.specs.Content.{Content, no_content}
 use Rattle.git_model.specs.Repository.{Object}
 use Rattle.git_model.specs.References.{references_in, referred_by, place_of, object_at}
 use Rattle.git_model.specs.GoodRepository.{AreObjects}
-use Rattle.git_model.specs.Reach.{Reaches}
-use Rattle.git_model.proofs.Earlier.{references_fall}
+use Rattle.git_model.specs.Reach.{Reaches, is_reachable}
+use Rattle.git_model.proofs.Least.{least}
+use Rattle.git_model.proofs.Earlier.{place_within, references_fall}
 use Rattle.commit_walk.proofs.Named.{there, not_there}
 use Rattle.commit_walk.proofs.Walks.{Reaches-itself}
 use Rattle.export_text.specs.Marking.{marked}
-use Rattle.export_text.proofs.Reaching.{IsOn, IsOne, marked-length}
+
+-- The flag of a name's object is set, if there is such an object.
+abbrev pub IsOn : List Object → List Bool → List ℕ → Type 0
+IsOn os flags id = get_or flags (place_of id os) true ≡ true
+
+-- A place is that of one of some names.
+record IsOne (os : List Object) (ids : List (List ℕ)) (p : ℕ) : Type 0 where
+  id : List ℕ
+  among : Contains ids id
+  place_is : place_of id os ≡ p
 
 set_on : (flags : List Bool) (at p : ℕ) (d : Bool) → get_or flags p d ≡ true
     → get_or (set flags at true) p d ≡ true
@@ -66,7 +76,7 @@ none_on zero p h = cc
 none_on (suc n) zero h = cc
 none_on (suc n) (suc p) h = none_on n p h
 
-pub onward : (leads : List ℕ → List (List ℕ)) (from to next : List ℕ) → Reaches leads from to
+onward : (leads : List ℕ → List (List ℕ)) (from to next : List ℕ) → Reaches leads from to
     → Contains (leads to) next → Reaches leads from next
 onward leads from to next r among = record {
   in_each = λ set starts closed. All-contains (λ b. IsTrue (set b)) (leads to) next
@@ -74,6 +84,17 @@ onward leads from to next r among = record {
 }
 
 module _ (os : List Object) where
+  pub marked-length : (ids : List (List ℕ)) (flags : List Bool)
+      → length (marked os flags ids) ≡ length flags
+  marked-length [] flags = refl
+  marked-length (id ∷ ids) flags =
+      marked-length ids (set flags (place_of id os) true) ∙ length-set flags (place_of id os) true
+
+  pub marked-append : (ids more : List (List ℕ)) (flags : List Bool)
+      → marked os flags (ids ++ more) ≡ marked os (marked os flags ids) more
+  marked-append [] more flags = refl
+  marked-append (id ∷ ids) more flags = marked-append ids more (set flags (place_of id os) true)
+
   pub kept_on : (ids : List (List ℕ)) (flags : List Bool) (p : ℕ) (d : Bool)
       → get_or flags p d ≡ true → get_or (marked os flags ids) p d ≡ true
   kept_on [] flags p d h = h
@@ -100,7 +121,7 @@ module _ (os : List Object) where
     place_is = one.place_is;
   }
 
-  pub new_on : (ids : List (List ℕ)) (flags : List Bool) (p : ℕ)
+  new_on : (ids : List (List ℕ)) (flags : List Bool) (p : ℕ)
       → get_or (marked os flags ids) p false ≡ true
       → (get_or flags p false ≡ true) ⊎ IsOne os ids p
   new_on [] flags p h = inl h
@@ -112,7 +133,7 @@ module _ (os : List Object) where
     | inr one ↦ inr (later id ids p one)
   ]
 
-  pub id_at : (id : List ℕ) (p : ℕ) → place_of id os ≡ p → p < length os → (object_at p os).id ≡ id
+  id_at : (id : List ℕ) (p : ℕ) → place_of id os ≡ p → p < length os → (object_at p os).id ≡ id
   id_at id p at lt =
       subst (λ (q : ℕ). (object_at q os).id ≡ id) at (there id os (omega (arith, at))).id_is
 
@@ -143,13 +164,13 @@ module _ (os : List Object) where
 
   pub led-first : (names : List (List ℕ)) → IsLed names (marked os (replicate (length os) false) names)
   led-first names = record {
-    size = marked-length os names (replicate (length os) false) ∙ length-replicate (length os) false;
+    size = marked-length names (replicate (length os) false) ∙ length-replicate (length os) false;
     begun = all_on names (replicate (length os) false);
     only = λ p h. elim (new_on names (replicate (length os) false) p h) [
       | inl old ↦ absurd (none_on (length os) p old)
       | inr one ↦
           let lt : p < length os = let l = on_within (marked os (replicate (length os) false) names) p h in
-          let s = marked-length os names (replicate (length os) false) in
+          let s = marked-length names (replicate (length os) false) in
           let z = length-replicate (length os) false in omega arith in
           record {
             from = one.id;
@@ -198,3 +219,39 @@ module _ (digest : List ℕ → List ℕ) (os : List Object) (good : AreObjects 
           (subst (Contains (referred_by os (object_at n os).id)) (sym (id_at os one.id p one.place_is lt)) one.among)
     ];
   }
+
+-- ---- what is led to is what is reached
+
+module _ (digest : List ℕ → List ℕ) (os : List Object) (good : AreObjects digest os) where
+  by_least : (from id : List ℕ)
+      → IsTrue (is_reachable os (referred_by os) from id) ↔ Reaches (referred_by os) from id
+  by_least from id =
+      least (referred_by os) (λ x. place_of x os) (references_fall digest os good) (length os) from id
+      (place_within from os)
+
+  -- Some name of a list reaches what the list leads to, and no other.
+  pub any-led : (id : List ℕ) (names : List (List ℕ))
+      → list_any (λ name. is_reachable os (referred_by os) name id) names ≡ true → IsLedTo os names id
+  any-led id [] h = cc
+  any-led id (name ∷ names) h = elim (or_cases _ _ h) [
+    | inl one ↦ record { from = name; among = (0, omega arith, refl); reaches = (by_least name id).0 one }
+    | inr rest ↦
+        let found = any-led id names rest in
+        record {
+          from = found.from;
+          among = (suc found.among.0, omega (arith, found.among.1), found.among.2);
+          reaches = found.reaches;
+        }
+  ]
+
+  to_any : (id from : List ℕ) → Reaches (referred_by os) from id
+      → (names : List (List ℕ)) (k : ℕ) → k < length names → get_or names k from ≡ from
+      → list_any (λ name. is_reachable os (referred_by os) name id) names ≡ true
+  to_any id from r [] k lt at = absurd (omega arith)
+  to_any id from r (name ∷ names) zero lt at =
+      or_left _ _ (subst (λ (x : List ℕ). is_reachable os (referred_by os) x id ≡ true) (sym at) ((by_least from id).1 r))
+  to_any id from r (name ∷ names) (suc k) lt at = or_right _ _ (to_any id from r names k (omega arith) at)
+
+  pub led-any : (names : List (List ℕ)) (id : List ℕ) → IsLedTo os names id
+      → list_any (λ name. is_reachable os (referred_by os) name id) names ≡ true
+  led-any names id led = to_any id led.from led.reaches names led.among.0 led.among.1 led.among.2
