@@ -26,6 +26,9 @@ HISTORIES = {
     "flat": ["--commits", commits, "--flat"],
     "twice the files": ["--commits", commits, "--files", "4000"],
     "many files": LARGE if len(sys.argv) <= 3 else ["--commits", commits, *LARGE[2:]],
+    "three deep, eight times the commits": ["--commits", str(8 * number)],
+    "many files, four times the commits": ["--commits", str(4 * (20_000 if len(sys.argv) <= 3 else number)), *LARGE[2:]],
+    "one commit of many files": ["--commits", "1", "--files", str(200 * number), "--edits", str(200 * number)],
 }
 
 
