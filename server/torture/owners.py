@@ -225,6 +225,10 @@ class Streams:
             step = Step(Kind.ASK, self.name, query)
             self.compare(step, line.step(step))
 
+    def reach(self, line: Socket) -> None:
+        """Asks for the refs, and lets the answer be. A server that follows answers when it has come to the end of the log."""
+        line.step(Step(Kind.ASK, self.name, b"refs"))
+
     def settle(self, line: Socket) -> None:
         """Finds out which of the candidates the service has, and lets that last."""
         told = shape(lambda step: line.step(step), self.name)
