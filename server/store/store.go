@@ -187,8 +187,22 @@ func lockAll(folder string) (locks, error) {
 	return locks{first, second}, nil
 }
 
-// lockFile makes a file and locks it, as `gitpool` does with the lock file of a pool file.
+// lockWait is how long a lock is waited for. A server that is killed while it starts a process leaves its locks to that process, which has them
+// until it executes its program.
+const lockWait = 2 * time.Second
+
+// lockFile locks a file, and waits for at most lockWait while another has the lock.
 func lockFile(path string) (*os.File, error) {
+	for until := time.Now().Add(lockWait); ; time.Sleep(10 * time.Millisecond) {
+		file, err := tryLockFile(path)
+		if !errors.Is(err, ErrInHand) || time.Now().After(until) {
+			return file, err
+		}
+	}
+}
+
+// tryLockFile makes a file and locks it, as `gitpool` does with the lock file of a pool file.
+func tryLockFile(path string) (*os.File, error) {
 	file, err := os.OpenFile(path, os.O_RDWR|os.O_CREATE|syscall.O_NOFOLLOW|syscall.O_NONBLOCK, 0o600)
 	if err != nil {
 		return nil, err

@@ -294,6 +294,22 @@ func TestASecondServerIsRefused(t *testing.T) {
 	}
 }
 
+// A server that was killed may have left its locks to a process that it was just starting.
+func TestALockIsWaitedForAMoment(t *testing.T) {
+	c := config(t, folder(t))
+	for _, name := range []string{"lock", "pool.new"} {
+		held, err := tryLockFile(filepath.Join(c.Folder, name))
+		if err != nil {
+			t.Fatal(err)
+		}
+		time.AfterFunc(200*time.Millisecond, func() { held.Close() })
+		s := opened(t, c)
+		if err := s.Close(background); err != nil {
+			t.Fatal(err)
+		}
+	}
+}
+
 func TestARefusedEndIsToldAndLeavesNothing(t *testing.T) {
 	c := config(t, folder(t))
 	s := opened(t, c)
