@@ -229,8 +229,15 @@ func (f *Following) Rewind(pool Digest) error {
 	}
 	f.walk.segments = f.walk.segments[:base+1]
 	f.walk.end, f.walk.hasSteps = f.walk.segments[base].end, false
-	f.come = f.walk.end.number
+	f.comeTo(f.walk.end.number)
 	return nil
+}
+
+// comeTo notes how far the log was carried out, and wakes who waits for that. The mutex is held.
+func (f *Following) comeTo(number uint64) {
+	f.come = number
+	close(f.changed)
+	f.changed = make(chan struct{})
 }
 
 // tooOld says that this server needs a newer pool file.
@@ -269,10 +276,8 @@ func (f *Following) Arrive(number uint64) {
 	if number <= f.come {
 		return
 	}
-	f.come = number
+	f.comeTo(number)
 	f.sight.arrived(number)
-	close(f.changed)
-	f.changed = make(chan struct{})
 	if !f.IsLeading() {
 		if err := f.place.write(f.reached); err != nil {
 			f.options.Tell("%s cannot be written: %v", f.options.Place, err)

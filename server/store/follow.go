@@ -35,7 +35,7 @@ type follower struct {
 	log   *journal.Following
 	ended chan struct{}
 
-	// turn is held by whoever takes records, or lets another child carry them out. It guards what follows: the
+	// turn is held by whoever takes records, or starts another child that carries them out. It guards the pool file and what follows: the
 	// journal on its way to the child, and the room of that.
 	turn   sync.Mutex
 	replay *replay
@@ -81,13 +81,8 @@ func (s *Store) openFollowed(options journal.Options, pool journal.Digest) error
 func (s *Store) isFollowing() bool { return s.follower != nil && !s.follower.log.IsLeading() }
 
 // carryOutFollowed brings a child to where the log goes on from the pool file; followOn carries out what comes from there on. It tells whether
-// this store follows.
+// this store follows. The turn is held.
 func (s *Store) carryOutFollowed(process *child.Process, room string, pool journal.Digest) (isFollowing bool, err error) {
-	if s.follower == nil {
-		return false, nil
-	}
-	s.follower.turn.Lock()
-	defer s.follower.turn.Unlock()
 	if !s.isFollowing() {
 		return false, nil
 	}

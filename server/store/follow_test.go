@@ -103,6 +103,55 @@ func TestARescueThatHasNoTurn(t *testing.T) {
 	}
 }
 
+// TestAChildThatDiesInASave has a follower's child die when it has written the pool file, while that is not in its place yet. The next child begins
+// from the file that is.
+func TestAChildThatDiesInASave(t *testing.T) {
+	server := redistest.Start(t)
+	c := overRedis(t, server, plain(t, folder(t)))
+	leader := opened(t, c)
+	defer leader.Close(background)
+	of := followerOf(t, c)
+	follower := opened(t, of)
+	defer follower.Close(background)
+	f := follower.follower
+	f.turn.Lock()
+	pushAll(t, leader, "m0")
+	must(t, leader.Save(background))
+	followToSave(t, follower)
+	digest, err := follower.writePool(f.replay.process, f.room)
+	must(t, err)
+	f.replay.process.Kill()
+	<-f.replay.process.Gone()
+	time.Sleep(200 * time.Millisecond)
+	must(t, follower.renamePool())
+	f.log.Saved(digest)
+	f.turn.Unlock()
+	hasMessages(t, follower, "a", "refs/heads/main", []string{"m0"})
+	pushAll(t, leader, "m1")
+	hasMessages(t, follower, "a", "refs/heads/main", []string{"m1", "m0"})
+	saves(t, leader, follower)
+	samePool(t, c, of)
+}
+
+// followToSave lets a follower whose turn is held carry out what the log has up to its next save.
+func followToSave(t testing.TB, follower *Store) {
+	t.Helper()
+	f := follower.follower
+	for {
+		entries, err := f.log.Read()
+		must(t, err)
+		for f.log.HasNext(&entries) {
+			it, err := f.log.Take(&entries)
+			must(t, err)
+			if it.IsSave {
+				must(t, f.replay.settle(0))
+				return
+			}
+			must(t, follower.follow(it))
+		}
+	}
+}
+
 // TestAFollowerComesToTheSameBytes has a leader with pushes of several tenants at once, streams that stay open over a save, streams that are given
 // up and requests of the operator. The follower answers as the leader does, and comes to the same pool files.
 func TestAFollowerComesToTheSameBytes(t *testing.T) {

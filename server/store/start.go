@@ -21,8 +21,13 @@ import (
 	"gitpoold/poolfile"
 )
 
-// start starts a child on the pool file and lets it carry out the journal. Nobody else uses the process meanwhile.
+// start starts a child on the pool file and lets it carry out the journal. Nobody else uses the process meanwhile. Where this store follows a
+// log, it takes no record meanwhile, for one that says that the leader saved would put another pool file there.
 func (s *Store) start() error {
+	if s.follower != nil {
+		s.follower.turn.Lock()
+		defer s.follower.turn.Unlock()
+	}
 	digest, err := poolfile.Digest(s.folder("pool"))
 	if err != nil {
 		return err

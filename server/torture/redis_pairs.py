@@ -107,8 +107,9 @@ class RedisServer:
         os.replace(os.path.join(self.folder, "clock.new"), os.path.join(self.folder, "clock"))
 
     def start(self, *more: str) -> None:
-        """Starts it, and waits until it answers and has loaded its file."""
-        words = ["redis-server", *self.settings, "--port", str(self.port), "--bind", "127.0.0.1", "--dir", self.folder, "--logfile", "redis.log", *more]
+        """Starts it, and waits until it answers and has loaded its file. A thread of its allocator would go round and round where its clock is behind."""
+        words = ["redis-server", *self.settings, "--port", str(self.port), "--bind", "127.0.0.1", "--dir", self.folder, "--logfile", "redis.log",
+                 "--jemalloc-bg-thread", "no", *more]
         self.process = subprocess.Popen(words, stdout=subprocess.DEVNULL, env=self.environment())
         STARTED.append(self.process)
         wait_until(lambda: self.ask("PING") == b"PONG", f"redis-server in {self.folder} does not answer")
