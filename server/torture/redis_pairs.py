@@ -217,8 +217,12 @@ class Sentinel(RedisServer):
         """Watches these."""
         for pair in pairs:
             self.ask("SENTINEL", "MONITOR", pair.name, "127.0.0.1", pair.both[0].port, 1)
-            for name, value in (("down-after-milliseconds", 1000), ("failover-timeout", 3000)):
-                self.ask("SENTINEL", "SET", pair.name, name, value)
+            self.ask("SENTINEL", "SET", pair.name, "failover-timeout", 3000)
+            self.wait_before_failovers(pair)
+
+    def wait_before_failovers(self, pair: Pair, milliseconds: int = 1000) -> None:
+        """Lets it act when a primary is silent for so long."""
+        self.ask("SENTINEL", "SET", pair.name, "down-after-milliseconds", milliseconds)
 
     def primary_of(self, name: str) -> int:
         """The port of the primary that it knows under a name, 0 where it does not answer."""

@@ -235,9 +235,13 @@ class Strikes(FollowerStrikes):
             chain = made[-32:]
 
     def log_gone(self) -> None:
-        """A Redis is emptied under the server that runs: it ends, keeps what was told in a file, and goes on with that under another key."""
-        self.pair().primary().ask("FLUSHALL")
+        """A Redis is emptied under the server that runs: it ends, keeps what was told in a file, and goes on with that under another key. Meanwhile the
+        Sentinel does not put the replica in its place, which may not have been emptied yet."""
+        pair = self.pair()
+        self.service.sentinel.wait_before_failovers(pair, 60_000)
+        pair.primary().ask("FLUSHALL")
         self.ended_with(3, ("the log is gone",))
+        self.service.sentinel.wait_before_failovers(pair)
         self.refused_start(("the log is gone", "there is no log"))
         self.rescued()
 
@@ -256,13 +260,14 @@ class Strikes(FollowerStrikes):
         first = chosen[0][1]
         for it in pair.both:
             it.kill()
+        # Where it still knew the pair, it could let the first one follow what was the primary before.
+        self.service.sentinel.ask("SENTINEL", "REMOVE", pair.name)
         cut_off(first, self.chance)
         for source, target in chosen[1:]:
             shutil.rmtree(os.path.join(target.folder, "appendonlydir"))
             shutil.copytree(os.path.join(source.folder, "appendonlydir"), os.path.join(target.folder, "appendonlydir"))
         first.start()
         other = next(it for it in pair.both if it is not first)
-        self.service.sentinel.ask("SENTINEL", "REMOVE", pair.name)
         pair.both = [first, other]
         self.service.sentinel.watch([pair])
         other.start("--replicaof", "127.0.0.1", str(first.port))
