@@ -1,5 +1,5 @@
 -- A hosting of steps alone is a serving.
-use Rattle.std.proofs.Common.{◌≡◌, ℕ, suc, ◌≤◌, Bool, true, false, true≢false, inl, inr, List, [], ◌∷◌, ◌++◌, length, Result, Ok, Err, refl, sym, ap, subst, ◌∙◌}
+use Rattle.std.proofs.Common.{◌≡◌, ℕ, suc, ◌≤◌, true, false, true≢false, inl, inr, List, [], ◌∷◌, ◌++◌, length, Result, Ok, Err, refl, sym, ap, subst, ◌∙◌}
 use Rattle.std.specs.List.{AllByRecursion}
 use Rattle.std.specs.Io.KnownBytes.{Appends}
 use Rattle.git_model.specs.Limits.{frames_limit}
@@ -12,10 +12,10 @@ use Rattle.service_steps.specs.Frames.{frame_of, step_text, answer_text, IsGood}
 use Rattle.service_steps.specs.Requests.{request_frame, IsGoodRequest}
 use Rattle.service_steps.specs.StepFrames.{begins_no_request, is_step}
 use Rattle.service_steps.proofs.StepRequestLemmas.{good_step, unfinished_step, cut_off_step, bad_step}
-use Rattle.tenant_service.specs.Headline.{Response, Run, IsRefused}
+use Rattle.tenant_service.specs.Headline.{IsRefused}
 use Rattle.gitpool.specs.Devices.{AppendsAsFar}
 use Rattle.gitpool.specs.Requests.{Hosted, Takes}
-use Rattle.gitpool.specs.Serving.{steps_text, answers_text, Served, IsToBlame, AreAnswered, WritesAnswers, StopsReading, Serves}
+use Rattle.gitpool.specs.Serving.{steps_text, answers_text, Served, IsToBlame, AreAnswered, WritesAnswers, StopsReading}
 use Rattle.gitpool.specs.Hosting.{HostRun, Leads, with_step, steps_in, spares, IsSpared, requests_text, told_text, TakesAll, AreTold, IsHostToBlame, WritesTold, StopsHosting, Hosts, IsOfSteps, ServesAlone}
 
 abbrev AreSteps : HostRun → Type 0

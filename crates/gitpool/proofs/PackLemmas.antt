@@ -1,5 +1,5 @@
 -- The pack that lines ask for, by the calls that write it.
-use Rattle.std.proofs.Common.{arith, length, ◌≡◌, ◌∙◌, ◌⊎◌, inl, inr, ℕ, ◌+◌, Bool, cond, true, false, refl, sym, ap, ap₂, subst, List, [], ◌∷◌, ◌++◌, append_assoc, append-nil, map, take, slice_get, Some, Result, Ok, Err}
+use Rattle.std.proofs.Common.{arith, length, ◌≡◌, ◌∙◌, inl, inr, ℕ, ◌+◌, Bool, cond, true, false, refl, sym, ap, ap₂, subst, List, [], ◌∷◌, ◌++◌, append_assoc, append-nil, map, take, slice_get, Some, Result, Err}
 use Rattle.std.proofs.lemmas.List.{map-append}
 use Rattle.byte_devices.specs.Device.{Device}
 use Rattle.git_model.specs.Content.{Content}

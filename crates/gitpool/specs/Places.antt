@@ -1,5 +1,5 @@
 -- A pool file that is replaced as a whole: its bytes, where they are known.
-use Rattle.std.specs.Prelude.{◌≡◌, ℕ, List, [], Option, None, Some, Result, Ok, Err}
+use Rattle.std.specs.Prelude.{◌≡◌, ℕ, List, Option, None, Some, Result, Ok, Err}
 use Rattle.std.specs.Io.KnownBytes.{Keeps}
 use Rattle.gitpool.specs.declared.save_fault.SaveFault.{SaveFault}
 

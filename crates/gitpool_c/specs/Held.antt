@@ -1,5 +1,5 @@
 -- What a handle owns, and what it keeps.
-use Rattle.std.specs.Prelude.{ℕ, List, [], Option, Some, None}
+use Rattle.std.specs.Prelude.{List, [], Option, Some, None}
 use Rattle.std.specs.Box.Ownership.{box_owns}
 use Rattle.service_steps.specs.declared.answer.Answer.TheVariants as answer
 use Rattle.tenant_service.specs.Headline.{Response, told_by_reply}

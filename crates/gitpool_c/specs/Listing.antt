@@ -1,5 +1,5 @@
 -- What each tenant has, in a list of its own and for C.
-use Rattle.std.specs.Prelude.{◌≡◌, ◌+◌, ℕ, Bool, true, false, List, [], ◌∷◌, length, map, slice_get, Option, None, Some, Result, Ok, Err}
+use Rattle.std.specs.Prelude.{◌≡◌, ℕ, Bool, true, false, List, length, map, slice_get, Option, None, Some, Result, Ok, Err}
 use Rattle.git_model.specs.declared.memory.Memory.{Memory}
 use Rattle.tenant_service.specs.Sizes.{Sizes, sizes_of}
 use Rattle.tenant_service.specs.TenantState.{TenantStates}

@@ -8,7 +8,6 @@ use Rattle.tenant_service.specs.Headline.{Response}
 use Rattle.tenant_service.specs.Saved.{LoadsAs, LoadsEach, LoadsText, saved_of}
 use Rattle.tenant_service.specs.TenantState.{TenantStates}
 use Rattle.gitpool_c.specs.declared.kept.Kept.{Kept}
-use Rattle.gitpool_c.specs.Held.{service_in}
 use Rattle.gitpool_c.specs.Numbers.{load_number}
 
 -- The clauses of `Service::load` of a reader that has just these bytes.

@@ -1,6 +1,6 @@
 //! A service: where it comes from, what is stored in it, and its end.
 
-ghost use Rattle.std.specs.Prelude.{◌≡◌, ◌≢◌, ℕ, [], Some, None, IsSome, IfOk, OnOk, OnErr, length};
+ghost use Rattle.std.specs.Prelude.{◌≡◌, ◌≢◌, [], None, IsSome, IfOk};
 ghost use Rattle.sha1.specs.Sha1.{sha1};
 ghost use Rattle.pool_file_checks.specs.Repositories.{file_text};
 ghost use Rattle.tenant_service.specs.Headline.{told_by_reply};

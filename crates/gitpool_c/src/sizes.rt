@@ -1,6 +1,6 @@
 //! A list of what each tenant has.
 
-ghost use Rattle.std.specs.Prelude.{◌≡◌, ◌≢◌, None, IsSome, IfOk, IfErr, IsNone, IsTrue, true, false, length, map};
+ghost use Rattle.std.specs.Prelude.{◌≡◌, ◌≢◌, None, IsSome, IfOk, true, false, length, map};
 ghost use Rattle.tenant_service.specs.Sizes.{sizes_of, sizes_told};
 ghost use Rattle.gitpool_c.specs.Held.{listed_in, service_in};
 ghost use Rattle.gitpool_c.specs.Listing.{Lists, ShowsAt, listed_told};

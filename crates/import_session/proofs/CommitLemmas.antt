@@ -33,7 +33,7 @@ use Rattle.stream_commands.specs.Held.{ChainStands, HoldsFiles}
 use Rattle.stream_commands.specs.Lines.{in_changes}
 use Rattle.import_session.specs.Commits.{begun_from, commit_opened, header_said}
 use Rattle.import_session.specs.Opening.{opened_at, opened_with, started_or_cleared}
-use Rattle.stream_commands.specs.State.{StreamState, branched, state_with, workspace_in, CarriesOut}
+use Rattle.stream_commands.specs.State.{StreamState, branched, state_with, workspace_in, workspace_over, CarriesOut}
 use Rattle.import_session.specs.Session.{Leaves}
 use Rattle.import_session.specs.Sound.{IsSound}
 use Rattle.stream_commands.proofs.ActLemmas.{carries_refused}
@@ -81,16 +81,15 @@ no_changes_with to (open_command.Reset ref) f is = cc
 no_changes_with to (open_command.Inline held file) f is = cc
 
 -- a line whose commit is not open
-pub not_changing : (state : StreamState) (new : Workspace) (p : Cells) (t : View) (refs : RefStore)
-    (later : OpenCommit → Result Effect Fault) (out : List ℕ) (e f : Fault) → f ≡ e
+pub not_changing : (state : StreamState) (new : Workspace) (os : List Object) (committed : ℕ)
+    (refs : RefStore) (later : OpenCommit → Result Effect Fault) (out : List ℕ) (e f : Fault) → f ≡ e
     → changes_in state.stream.command ≡ Err e
-    → CarriesOut
-    (and_then (changes_in (workspace_in state p t refs).stream.command) later) new out out (Err f)
-not_changing state new p t refs later out e f same none =
+    → CarriesOut (and_then (changes_in (workspace_over state os committed refs).stream.command) later)
+    new out out (Err f)
+not_changing state new os committed refs later out e f same none =
     carries_refused
-    (and_then (changes_in (workspace_in state p t refs).stream.command) later) new out out f
-    (λ other.
-    rw (no_changes_with (commit_in (objects p t.entries)) state.stream.command e none, same) refl)
+    (and_then (changes_in (workspace_over state os committed refs).stream.command) later) new out out f
+    (λ other. rw (no_changes_with (commit_in os) state.stream.command e none, same) refl)
 
 -- what a change leaves
 changed_open : (workspace : Workspace) (change : OpenCommit → Result OpenCommit Fault)
@@ -104,21 +103,20 @@ changed_open workspace change commit next out (Err f) held_is refused =
     out out f (λ other. rw (held_is, refused other) refl)
 
 -- the same of a session that takes its commit out, and puts it back when it was changed
-pub put_back : (state left : StreamState) (p : Cells) (t : View) (refs : RefStore)
+pub put_back : (state left : StreamState) (os : List Object) (committed : ℕ) (refs : RefStore)
     (change : OpenCommit → Result OpenCommit Fault)
     (commit next : LentCommit) (out : List ℕ) (result : Result Unit Fault)
     → state.stream.command ≡ open_command.Changes (commit_held commit)
     → left ≡ state_with state (open_command.Changes (commit_held next))
-    → Leaves (change (shown_in (objects p t.entries) commit)) (shown_in (objects p t.entries) next)
-    result
-    → CarriesOut (in_changes change (workspace_in state p t refs)) (workspace_in left p t refs) out
-    out result
-put_back state left p t refs change commit next out result is left_is changed =
-    subst (λ (s : StreamState). CarriesOut (in_changes change (workspace_in state p t refs))
-    (workspace_in s p t refs) out out result) (sym left_is)
-    (changed_open (workspace_in state p t refs) change (shown_in (objects p t.entries) commit)
-    (shown_in (objects p t.entries) next) out result
-    (ap (λ (c : OpenCommand HeldCommit). command_with (commit_in (objects p t.entries)) c) is) changed)
+    → Leaves (change (shown_in os commit)) (shown_in os next) result
+    → CarriesOut (in_changes change (workspace_over state os committed refs))
+    (workspace_over left os committed refs) out out result
+put_back state left os committed refs change commit next out result is left_is changed =
+    subst (λ (s : StreamState). CarriesOut (in_changes change (workspace_over state os committed refs))
+    (workspace_over s os committed refs) out out result) (sym left_is)
+    (changed_open (workspace_over state os committed refs) change (shown_in os commit)
+    (shown_in os next) out result
+    (ap (λ (c : OpenCommand HeldCommit). command_with (commit_in os) c) is) changed)
 
 -- a session that takes its commit out and looks a commit up, and puts its own back
 pub left_with : (state looked left : StreamState) (spent : OpenCommand HeldCommit) (next : HeldCommit)
@@ -128,14 +126,14 @@ pub left_with : (state looked left : StreamState) (spent : OpenCommand HeldCommi
 left_with state looked left spent next chain looked_is left_is =
     left_is ∙ ap (λ (s : StreamState). state_with s (open_command.Changes next)) looked_is
 
-pub held_with : (os : List Object) (state left : StreamState) (next : HeldCommit)
+pub held_with : (digest : List ℕ → List ℕ) (os : List Object) (state left : StreamState) (next : HeldCommit)
     (chain : ChainCache) (result : Result Unit Fault) → AreBranches os state.kept
-    → ChainStands os chain → OnOk result (Stands os next)
+    → ChainStands digest os chain → OnOk result (Stands os next)
     → left ≡ state_with (record state { chain = chain }) (open_command.Changes next)
-    → OnOk result (HoldsFiles os left)
-held_with os state left next chain (Ok u) kept follows stands is =
+    → OnOk result (HoldsFiles digest os left)
+held_with digest os state left next chain (Ok u) kept follows stands is =
     rw is (record { command = stands; kept = kept; chain = follows })
-held_with os state left next chain (Err f) kept follows stands is = tt
+held_with digest os state left next chain (Err f) kept follows stands is = tt
 
 -- a file of it waits for its data
 pub file_waits : (state : StreamState) (p : Cells) (t : View) (refs : RefStore)

@@ -22,7 +22,7 @@ use stream_commands::state::StreamState;
 use stream_grammar::Act;
 use stream_parts::fault::Fault;
 use tenant_refs::Refs;
-use tenant_tables::Table;
+use tenant_tables::{Objects, Sight, Table};
 
 // Carries out an act, and appends what it prints to `out`. If the act is refused, the objects up to
 // the last checkpoint stay.
@@ -37,7 +37,7 @@ pub fn carry_out<N: Naming>(
 ) -> Result<(), Fault>
     requires stands { IsBackedBy N.digest_of pool.old table.old.entries }
     requires room { HasHoldsLeftBeside pool.old table.old.entries }
-    requires held { FilesStand (state_shown state.old) pool.old table.old }
+    requires held { FilesStand N.digest_of (state_shown state.old) pool.old table.old }
     ensures keeps { Keeps N.digest_of pool.old table.old pool.new table.new }
     ensures done { IsSound N.digest_of
         (workspace_in (state_shown state.old) pool.old table.old refs.old) → CarriesOut
@@ -48,14 +48,16 @@ pub fn carry_out<N: Naming>(
     ensures committed { OnErr result (KeepsCommitted pool.old table.old pool.new table.new) }
     ensures refs { OnErr result (refs.new ≡ refs.old) }
     ensures printed { OnErr result (out.new.items ≡ out.old.items) }
-    ensures held { OnOk result (FilesStand (state_shown state.new) pool.new table.new) }
+    ensures held { OnOk result (FilesStand N.digest_of (state_shown state.new) pool.new table.new) }
 {
     match act {
         Act::Wait => Ok(()),
         Act::Object(command) => carry_out_object(pool, table, refs, state, command),
         Act::Commit(command) => carry_out_commit(pool, table, refs, state, command),
         Act::Change(change) => carry_out_change(pool, table, state, change),
-        Act::Ref(command) => carry_out_ref(pool, table, refs, state, command),
+        Act::Ref(command) => {
+            carry_out_ref(&Objects::of(pool, table, Sight::All), refs, state, command)
+        }
         Act::Reply(command) => carry_out_reply(pool, table, state, command, out),
         Act::Control(command) => carry_out_control(pool, table, refs, state, command, out),
     }

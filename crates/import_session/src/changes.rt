@@ -1,7 +1,7 @@
 //! What changes in the files of the open commit: git-fast-import(1), "filemodify" to
 //! "filedeleteall".
 
-ghost use Rattle.std.specs.Prelude.{◌≡◌, List, ℕ, OnOk};
+ghost use Rattle.std.specs.Prelude.{List, ℕ, OnOk};
 ghost use Rattle.content_pool.specs.Pool.{Cells};
 ghost use Rattle.git_model.specs.GoodRepository.{AreObjects};
 ghost use Rattle.git_model.specs.RefStore.{RefStore};
@@ -40,14 +40,14 @@ fn modify<N: Naming>(
     path: &Path,
 ) -> Result<(), Fault>
     requires stands { IsBackedBy N.digest_of pool.now table.now.entries }
-    requires held { FilesStand (state_shown state.old) pool.now table.now }
+    requires held { FilesStand N.digest_of (state_shown state.old) pool.now table.now }
     ensures done { (refs : RefStore) (out : List ℕ) → AreObjects N.digest_of
         (objects pool.now table.now.entries)
         → CarriesOut
         (files_changed N.digest_of (Modify mode object path.now)
         (workspace_in (state_shown state.old) pool.now table.now refs))
         (workspace_in (state_shown state.new) pool.now table.now refs) out out result }
-    ensures held { OnOk result (FilesStand (state_shown state.new) pool.now table.now) }
+    ensures held { OnOk result (FilesStand N.digest_of (state_shown state.new) pool.now table.now) }
 {
     let OpenCommand::Changes(commit) = &mut state.command else {
         return Err(not_open());
@@ -83,14 +83,14 @@ fn put_contents<N: Naming>(
 ) -> Result<(), Fault>
     requires stands { IsBackedBy N.digest_of pool.old table.old.entries }
     requires room { HasHoldsLeftBeside pool.old table.old.entries }
-    requires held { FilesStand (state_shown state.old) pool.old table.old }
+    requires held { FilesStand N.digest_of (state_shown state.old) pool.old table.old }
     ensures keeps { Keeps N.digest_of pool.old table.old pool.new table.new }
     ensures done { (refs : RefStore) (out : List ℕ) → CarriesOut
         (files_changed N.digest_of (InlineData bytes.now)
         (workspace_in (state_shown state.old) pool.old table.old refs))
         (workspace_in (state_shown state.new) pool.new table.new refs) out out result }
     ensures committed { KeepsCommitted pool.old table.old pool.new table.new }
-    ensures held { OnOk result (FilesStand (state_shown state.new) pool.new table.new) }
+    ensures held { OnOk result (FilesStand N.digest_of (state_shown state.new) pool.new table.new) }
 {
     let (mut commit, file) = match state.command.take() {
         OpenCommand::Inline(commit, file) => (commit, file),
@@ -111,12 +111,12 @@ fn delete<N: Naming>(
     path: &Path,
 ) -> Result<(), Fault>
     requires stands { IsBackedBy N.digest_of pool.now table.now.entries }
-    requires held { FilesStand (state_shown state.old) pool.now table.now }
+    requires held { FilesStand N.digest_of (state_shown state.old) pool.now table.now }
     ensures done { (refs : RefStore) (out : List ℕ) → CarriesOut
         (files_changed N.digest_of (Delete path.now)
         (workspace_in (state_shown state.old) pool.now table.now refs))
         (workspace_in (state_shown state.new) pool.now table.now refs) out out result }
-    ensures held { OnOk result (FilesStand (state_shown state.new) pool.now table.now) }
+    ensures held { OnOk result (FilesStand N.digest_of (state_shown state.new) pool.now table.now) }
 {
     let OpenCommand::Changes(commit) = &mut state.command else {
         return Err(not_open());
@@ -134,12 +134,12 @@ fn copy<N: Naming>(
     path: &Path,
 ) -> Result<(), Fault>
     requires stands { IsBackedBy N.digest_of pool.now table.now.entries }
-    requires held { FilesStand (state_shown state.old) pool.now table.now }
+    requires held { FilesStand N.digest_of (state_shown state.old) pool.now table.now }
     ensures done { (refs : RefStore) (out : List ℕ) → CarriesOut
         (files_changed N.digest_of (Copy source.now path.now)
         (workspace_in (state_shown state.old) pool.now table.now refs))
         (workspace_in (state_shown state.new) pool.now table.now refs) out out result }
-    ensures held { OnOk result (FilesStand (state_shown state.new) pool.now table.now) }
+    ensures held { OnOk result (FilesStand N.digest_of (state_shown state.new) pool.now table.now) }
 {
     let OpenCommand::Changes(commit) = &mut state.command else {
         return Err(not_open());
@@ -157,12 +157,12 @@ fn rename<N: Naming>(
     path: &Path,
 ) -> Result<(), Fault>
     requires stands { IsBackedBy N.digest_of pool.now table.now.entries }
-    requires held { FilesStand (state_shown state.old) pool.now table.now }
+    requires held { FilesStand N.digest_of (state_shown state.old) pool.now table.now }
     ensures done { (refs : RefStore) (out : List ℕ) → CarriesOut
         (files_changed N.digest_of (Rename source.now path.now)
         (workspace_in (state_shown state.old) pool.now table.now refs))
         (workspace_in (state_shown state.new) pool.now table.now refs) out out result }
-    ensures held { OnOk result (FilesStand (state_shown state.new) pool.now table.now) }
+    ensures held { OnOk result (FilesStand N.digest_of (state_shown state.new) pool.now table.now) }
 {
     let OpenCommand::Changes(commit) = &mut state.command else {
         return Err(not_open());
@@ -177,8 +177,9 @@ fn delete_all(state: &mut StreamState) -> Result<(), Fault>
         (out : List ℕ) → CarriesOut
         (files_changed digest DeleteAll (workspace_in (state_shown state.old) pool table refs))
         (workspace_in (state_shown state.new) pool table refs) out out result }
-    ensures held { (os : List Object) → HoldsFiles os (state_shown state.old)
-        → OnOk result (HoldsFiles os (state_shown state.new)) }
+    ensures held { (digest : List ℕ → List ℕ) (os : List Object)
+        → HoldsFiles digest os (state_shown state.old)
+        → OnOk result (HoldsFiles digest os (state_shown state.new)) }
 {
     let OpenCommand::Changes(commit) = &mut state.command else {
         return Err(not_open());
@@ -196,7 +197,7 @@ pub fn carry_out_change<N: Naming>(
 ) -> Result<(), Fault>
     requires stands { IsBackedBy N.digest_of pool.old table.old.entries }
     requires room { HasHoldsLeftBeside pool.old table.old.entries }
-    requires held { FilesStand (state_shown state.old) pool.old table.old }
+    requires held { FilesStand N.digest_of (state_shown state.old) pool.old table.old }
     ensures keeps { Keeps N.digest_of pool.old table.old pool.new table.new }
     ensures done { (refs : RefStore) (out : List ℕ)
         → AreObjects N.digest_of (objects pool.old table.old.entries) → CarriesOut
@@ -204,7 +205,7 @@ pub fn carry_out_change<N: Naming>(
         (workspace_in (state_shown state.old) pool.old table.old refs))
         (workspace_in (state_shown state.new) pool.new table.new refs) out out result }
     ensures committed { KeepsCommitted pool.old table.old pool.new table.new }
-    ensures held { OnOk result (FilesStand (state_shown state.new) pool.new table.new) }
+    ensures held { OnOk result (FilesStand N.digest_of (state_shown state.new) pool.new table.new) }
 {
     match change {
         FileChange::Modify { mode, object, path } => {

@@ -48,8 +48,8 @@ fn close_commit<N: Naming>(
     ensures nothing { command_shown state.new.command ≡ Nothing }
     ensures kept { AreBranches (objects pool.old table.old.entries) state.old.kept
         → AreBranches (objects pool.new table.new.entries) state.new.kept }
-    ensures chain { ChainStands (objects pool.old table.old.entries) state.old.chain
-        → ChainStands (objects pool.new table.new.entries) state.new.chain }
+    ensures chain { ChainStands N.digest_of (objects pool.old table.old.entries) state.old.chain
+        → ChainStands N.digest_of (objects pool.new table.new.entries) state.new.chain }
     ensures held { OnOk result (IsCommitHeld (objects pool.new table.new.entries) commit.new) }
     ensures committed { KeepsCommitted pool.old table.old pool.new table.new }
 {
@@ -99,7 +99,7 @@ fn close<N: Naming>(
 ) -> Result<(), Fault>
     requires stands { IsBackedBy N.digest_of pool.old table.old.entries }
     requires room { HasHoldsLeftBeside pool.old table.old.entries }
-    requires held { FilesStand (state_shown state.old) pool.old table.old }
+    requires held { FilesStand N.digest_of (state_shown state.old) pool.old table.old }
     ensures keeps { Keeps N.digest_of pool.old table.old pool.new table.new }
     ensures room { HasHoldsLeftBeside pool.new table.new.entries }
     ensures done { (refs : RefStore) → Leaves
@@ -107,7 +107,7 @@ fn close<N: Naming>(
         open_closed N.digest_of old old.stream.command)
         (workspace_in (state_shown state.new) pool.new table.new refs) result }
     ensures committed { KeepsCommitted pool.old table.old pool.new table.new }
-    ensures held { OnOk result (FilesStand (state_shown state.new) pool.new table.new) }
+    ensures held { OnOk result (FilesStand N.digest_of (state_shown state.new) pool.new table.new) }
 {
     match state.command.take() {
         OpenCommand::Changes(mut commit) => {
@@ -136,14 +136,14 @@ pub fn close_where<N: Naming>(
 ) -> Result<(), Fault>
     requires stands { IsBackedBy N.digest_of pool.old table.old.entries }
     requires room { HasHoldsLeftBeside pool.old table.old.entries }
-    requires held { FilesStand (state_shown state.old) pool.old table.old }
+    requires held { FilesStand N.digest_of (state_shown state.old) pool.old table.old }
     ensures keeps { Keeps N.digest_of pool.old table.old pool.new table.new }
     ensures room { HasHoldsLeftBeside pool.new table.new.entries }
     ensures done { (refs : RefStore) → Leaves (closed_where N.digest_of ends
         (workspace_in (state_shown state.old) pool.old table.old refs))
         (workspace_in (state_shown state.new) pool.new table.new refs) result }
     ensures committed { KeepsCommitted pool.old table.old pool.new table.new }
-    ensures held { OnOk result (FilesStand (state_shown state.new) pool.new table.new) }
+    ensures held { OnOk result (FilesStand N.digest_of (state_shown state.new) pool.new table.new) }
 {
     if !ends {
         return Ok(());

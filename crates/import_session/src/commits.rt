@@ -10,9 +10,9 @@ ghost use Rattle.stream_grammar.specs.Acts.{Begin, Author, Committer, Encoding, 
 ghost use Rattle.stream_grammar.specs.Shown.{commit_command_shown, commit_shown as said_shown};
 ghost use Rattle.open_commits.specs.OpenCommit.{shown_in, IsCommitHeld};
 ghost use Rattle.import_session.specs.Commits.{commit_merged, commit_said, commit_started};
-ghost use Rattle.stream_commands.specs.Held.{ChainStands, FilesStand, KeepsBranchFiles};
+ghost use Rattle.stream_commands.specs.Held.{ChainStands, FilesStand, HoldsFiles, KeepsBranchFiles};
 ghost use Rattle.import_session.specs.Sound.{IsSound};
-ghost use Rattle.stream_commands.specs.State.{state_shown, workspace_in, CarriesOut};
+ghost use Rattle.stream_commands.specs.State.{state_shown, workspace_in, workspace_over, CarriesOut};
 ghost use Rattle.import_session.specs.Session.{Leaves};
 
 use crate::opening::open_commit;
@@ -28,7 +28,7 @@ use stream_parts::branches::copy_meant;
 use stream_parts::fault::Fault;
 use stream_parts::headers::{CommitHeader, set_encoding, set_ident};
 use tenant_refs::{RefName, Refs};
-use tenant_tables::Table;
+use tenant_tables::{Objects, Sight, Table};
 
 // 'commit'.
 #[tactic(auto, unfolding(crate::specs::Commits::commit_said))]
@@ -102,7 +102,7 @@ fn start_from<N: Naming>(
 ) -> Result<(), Fault>
     requires stands { IsBackedBy N.digest_of pool.now table.now.entries }
     requires held { IsCommitHeld (objects pool.now table.now.entries) commit.old }
-    requires chain { ChainStands (objects pool.now table.now.entries) state.old.chain }
+    requires chain { ChainStands N.digest_of (objects pool.now table.now.entries) state.old.chain }
     ensures done { let workspace = workspace_in (state_shown state.old) pool.now table.now refs.now
         in
         AreObjects N.digest_of workspace.objects → Leaves
@@ -112,36 +112,33 @@ fn start_from<N: Naming>(
     ensures held { OnOk result (IsCommitHeld (objects pool.now table.now.entries) commit.new) }
     ensures same { state_shown state.new
         ≡ record (state_shown state.old) { chain = state.new.chain } }
-    ensures chain { ChainStands (objects pool.now table.now.entries) state.new.chain }
+    ensures chain { ChainStands N.digest_of (objects pool.now table.now.entries) state.new.chain }
 {
-    let id = start_of(pool, table, refs, state, &commit.header.ref_name, from)?;
+    let objects = Objects::of(pool, table, Sight::All);
+    let id = start_of(&objects, refs, state, &commit.header.ref_name, from)?;
     passed_on(commit.start_from(pool, table, id))
 }
 
 // 'merge': the commit merges another one.
 fn merge<N: Naming>(
-    pool: &Pool<N>,
-    table: &Table,
+    objects: &Objects<'_, N>,
     refs: &Refs,
     state: &mut StreamState,
     commit: &mut OpenCommit,
     other: &CommitIsh<'_>,
 ) -> Result<(), Fault>
-    requires stands { IsBackedBy N.digest_of pool.now table.now.entries }
-    requires held { IsCommitHeld (objects pool.now table.now.entries) commit.old }
-    requires chain { ChainStands (objects pool.now table.now.entries) state.old.chain }
-    ensures done { let workspace = workspace_in (state_shown state.old) pool.now table.now refs.now
-        in
-        AreObjects N.digest_of workspace.objects → Leaves
-        (commit_merged workspace (said_shown other.now)
-        (shown_in workspace.objects commit.old))
-        (shown_in workspace.objects commit.new) result }
-    ensures held { OnOk result (IsCommitHeld (objects pool.now table.now.entries) commit.new) }
+    requires held { IsCommitHeld objects.now commit.old }
+    requires chain { ChainStands N.digest_of objects.now state.old.chain }
+    ensures done { (committed : ℕ) → AreObjects N.digest_of objects.now → Leaves
+        (commit_merged (workspace_over (state_shown state.old) objects.now committed refs.now)
+        (said_shown other.now) (shown_in objects.now commit.old))
+        (shown_in objects.now commit.new) result }
+    ensures held { OnOk result (IsCommitHeld objects.now commit.new) }
     ensures same { state_shown state.new
         ≡ record (state_shown state.old) { chain = state.new.chain } }
-    ensures chain { ChainStands (objects pool.now table.now.entries) state.new.chain }
+    ensures chain { ChainStands N.digest_of objects.now state.new.chain }
 {
-    let id = commit_named(pool, table, refs, state, other)?;
+    let id = commit_named(objects, refs, state, other)?;
     passed_on(commit.merge(id))
 }
 
@@ -155,12 +152,12 @@ fn start_open<N: Naming>(
     from: &CommitIsh<'_>,
 ) -> Result<(), Fault>
     requires stands { IsBackedBy N.digest_of pool.now table.now.entries }
-    requires held { FilesStand (state_shown state.old) pool.now table.now }
+    requires held { FilesStand N.digest_of (state_shown state.old) pool.now table.now }
     ensures done { (out : List ℕ) → AreObjects N.digest_of (objects pool.now table.now.entries)
         → CarriesOut (commit_said (From (said_shown from.now))
         (workspace_in (state_shown state.old) pool.now table.now refs.now))
         (workspace_in (state_shown state.new) pool.now table.now refs.now) out out result }
-    ensures held { OnOk result (FilesStand (state_shown state.new) pool.now table.now) }
+    ensures held { OnOk result (FilesStand N.digest_of (state_shown state.new) pool.now table.now) }
 {
     let mut commit = state.command.take_changes()?;
     let changed = start_from(pool, table, refs, state, &mut commit, from);
@@ -171,22 +168,20 @@ fn start_open<N: Naming>(
 // Merges another commit into the open one.
 #[tactic(auto, unfolding(crate::specs::Commits::commit_said))]
 fn merge_open<N: Naming>(
-    pool: &Pool<N>,
-    table: &Table,
+    objects: &Objects<'_, N>,
     refs: &Refs,
     state: &mut StreamState,
     other: &CommitIsh<'_>,
 ) -> Result<(), Fault>
-    requires stands { IsBackedBy N.digest_of pool.now table.now.entries }
-    requires held { FilesStand (state_shown state.old) pool.now table.now }
-    ensures done { (out : List ℕ) → AreObjects N.digest_of (objects pool.now table.now.entries)
+    requires held { HoldsFiles N.digest_of objects.now (state_shown state.old) }
+    ensures done { (out : List ℕ) (committed : ℕ) → AreObjects N.digest_of objects.now
         → CarriesOut (commit_said (Merge (said_shown other.now))
-        (workspace_in (state_shown state.old) pool.now table.now refs.now))
-        (workspace_in (state_shown state.new) pool.now table.now refs.now) out out result }
-    ensures held { OnOk result (FilesStand (state_shown state.new) pool.now table.now) }
+        (workspace_over (state_shown state.old) objects.now committed refs.now))
+        (workspace_over (state_shown state.new) objects.now committed refs.now) out out result }
+    ensures held { OnOk result (HoldsFiles N.digest_of objects.now (state_shown state.new)) }
 {
     let mut commit = state.command.take_changes()?;
-    let changed = merge(pool, table, refs, state, &mut commit, other);
+    let changed = merge(objects, refs, state, &mut commit, other);
     keep_open(state, commit);
     changed
 }
@@ -200,13 +195,13 @@ pub fn carry_out_commit<N: Naming>(
     command: &CommitCommand<'_>,
 ) -> Result<(), Fault>
     requires stands { IsBackedBy N.digest_of pool.now table.now.entries }
-    requires held { FilesStand (state_shown state.old) pool.now table.now }
+    requires held { FilesStand N.digest_of (state_shown state.old) pool.now table.now }
     ensures done { (out : List ℕ) → IsSound N.digest_of
         (workspace_in (state_shown state.old) pool.now table.now refs.now) → CarriesOut
         (commit_said (commit_command_shown command.now)
         (workspace_in (state_shown state.old) pool.now table.now refs.now))
         (workspace_in (state_shown state.new) pool.now table.now refs.now) out out result }
-    ensures held { OnOk result (FilesStand (state_shown state.new) pool.now table.now) }
+    ensures held { OnOk result (FilesStand N.digest_of (state_shown state.new) pool.now table.now) }
 {
     match command {
         CommitCommand::Begin(ref_name) => begin_commit(state, refs, ref_name),
@@ -217,6 +212,8 @@ pub fn carry_out_commit<N: Naming>(
             open_commit(pool, table, refs, state, *mark, message)
         }
         CommitCommand::From(from) => start_open(pool, table, refs, state, from),
-        CommitCommand::Merge(other) => merge_open(pool, table, refs, state, other),
+        CommitCommand::Merge(other) => {
+            merge_open(&Objects::of(pool, table, Sight::All), refs, state, other)
+        }
     }
 }

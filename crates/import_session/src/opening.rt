@@ -163,7 +163,7 @@ fn open_with<N: Naming>(
     message: &[u8],
 ) -> Result<OpenCommit, Fault>
     requires stands { IsBackedBy N.digest_of pool.now table.now.entries }
-    requires held { FilesStand (state_shown state.old) pool.now table.now }
+    requires held { FilesStand N.digest_of (state_shown state.old) pool.now table.now }
     ensures opened { (refs : RefStore) → let old = state_shown state.old in
         let workspace = workspace_in old pool.now table.now refs in
         IsSound N.digest_of workspace → MatchResult result
@@ -201,13 +201,13 @@ pub fn open_commit<N: Naming>(
     message: &[u8],
 ) -> Result<(), Fault>
     requires stands { IsBackedBy N.digest_of pool.now table.now.entries }
-    requires held { FilesStand (state_shown state.old) pool.now table.now }
+    requires held { FilesStand N.digest_of (state_shown state.old) pool.now table.now }
     ensures done { (out : List ℕ) → IsSound N.digest_of
         (workspace_in (state_shown state.old) pool.now table.now refs.now) → CarriesOut
         (commit_said (Message mark message.now)
         (workspace_in (state_shown state.old) pool.now table.now refs.now))
         (workspace_in (state_shown state.new) pool.now table.now refs.now) out out result }
-    ensures held { OnOk result (FilesStand (state_shown state.new) pool.now table.now) }
+    ensures held { OnOk result (FilesStand N.digest_of (state_shown state.new) pool.now table.now) }
 {
     let said = match state.command.take() {
         OpenCommand::Commit(said) => said,

@@ -3,7 +3,7 @@
 //! Each call borrows the pool, the table and the refs. Until a checkpoint, the objects after the
 //! table's committed prefix are the stream's own.
 
-ghost use Rattle.std.specs.Prelude.{◌≡◌, ◌≢◌, Err, OnErr, OnOk, Result};
+ghost use Rattle.std.specs.Prelude.{◌≡◌, Err, OnErr, OnOk, Result};
 ghost use Rattle.tenant_tables.specs.Room.{HasHoldsLeftBeside};
 ghost use Rattle.tenant_tables.specs.IsBackedBy.{IsBackedBy};
 ghost use Rattle.stream_grammar.specs.declared.fault.Fault.{Fault as TextFault};
@@ -108,9 +108,9 @@ fn carry_out_done<N: Naming>(
 ) -> Result<(), Fault>
     requires stands { IsBackedBy N.digest_of pool.old table.old.entries }
     requires room { HasHoldsLeftBeside pool.old table.old.entries }
-    requires held { FilesStand (state_shown state.old) pool.old table.old }
+    requires held { FilesStand N.digest_of (state_shown state.old) pool.old table.old }
     ensures keeps { Keeps N.digest_of pool.old table.old pool.new table.new }
-    ensures held { OnOk result (FilesStand (state_shown state.new) pool.new table.new) }
+    ensures held { OnOk result (FilesStand N.digest_of (state_shown state.new) pool.new table.new) }
     ensures carried { let now = workspace_in (state_shown state.old) pool.old table.old refs.old in
         IsSound N.digest_of now → CarriesOut
         (and_then (closed_where N.digest_of done.now.ends_commit now)
@@ -136,7 +136,7 @@ fn save_at_end<N: Naming>(
 ) -> Result<(), Fault>
     requires stands { IsBackedBy N.digest_of pool.old table.old.entries }
     requires room { HasHoldsLeftBeside pool.old table.old.entries }
-    requires held { FilesStand (state_shown state.old) pool.old table.old }
+    requires held { FilesStand N.digest_of (state_shown state.old) pool.old table.old }
     ensures keeps { Keeps N.digest_of pool.old table.old pool.new table.new }
     ensures saved { let now = workspace_in (state_shown state.old) pool.old table.old refs.old in
         IsSound N.digest_of now → CarriesOut
@@ -201,9 +201,9 @@ impl Session {
     ) -> Result<(), Fault>
         requires stands { IsBackedBy N.digest_of pool.old table.old.entries }
         requires room { HasHoldsLeftBeside pool.old table.old.entries }
-        requires held { FilesStand self.old.state pool.old table.old }
+        requires held { FilesStand N.digest_of self.old.state pool.old table.old }
         ensures keeps { Keeps N.digest_of pool.old table.old pool.new table.new }
-        ensures held { OnOk result (FilesStand self.new.state pool.new table.new) }
+        ensures held { OnOk result (FilesStand N.digest_of self.new.state pool.new table.new) }
         ensures taken { IsSound N.digest_of
             (workspace_in self.old.state pool.old table.old refs.old) → Takes
             (step N.digest_of (running_in self.old pool.old table.old refs.old)
@@ -245,7 +245,7 @@ impl Session {
     ) -> Result<(), Fault>
         requires stands { IsBackedBy N.digest_of pool.old table.old.entries }
         requires room { HasHoldsLeftBeside pool.old table.old.entries }
-        requires held { FilesStand self.old.state pool.old table.old }
+        requires held { FilesStand N.digest_of self.old.state pool.old table.old }
         ensures keeps { Keeps N.digest_of pool.old table.old pool.new table.new }
         ensures ended { IsSound N.digest_of
             (workspace_in self.old.state pool.old table.old refs.old) → CarriesOut

@@ -1,6 +1,6 @@
 //! The places of the objects of a copy: git-fast-export(1), git-fast-import(1).
 
-ghost use Rattle.std.specs.Prelude.{◌≡◌, ◌<◌, ℕ, List, [], Some, IfOk, IfSome, IsNone, OnOk, length};
+ghost use Rattle.std.specs.Prelude.{◌≡◌, ◌<◌, [], Some, IfOk, IfSome, IsNone, OnOk, length};
 ghost use Rattle.git_model.specs.declared.kind.Kind.TheVariants as kind;
 ghost use Rattle.git_model.specs.Commit.{Commit, CanWriteCommit, commit_contents};
 ghost use Rattle.git_model.specs.Content.{content_from};

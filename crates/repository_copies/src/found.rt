@@ -1,6 +1,6 @@
 //! The objects that a copy has so far, by their places in the repository.
 
-ghost use Rattle.std.specs.Prelude.{◌≡◌, ◌<◌, [], ◌∷◌, ℕ, List, false, length, get_or, replicate, IfOk, OnOk};
+ghost use Rattle.std.specs.Prelude.{◌≡◌, ◌<◌, [], ◌∷◌, ℕ, List, false, length, get_or, IfOk, OnOk};
 ghost use Rattle.git_model.specs.GoodRepository.{AreObjects};
 ghost use Rattle.git_model.specs.References.{object_at};
 ghost use Rattle.git_model.specs.Repository.{Object};

@@ -352,11 +352,11 @@ fn walk<N: Naming>(
 ) -> Result<bool, Fault>
     requires stands { IsBackedBy N.digest_of pool.old table.old.entries }
     requires alone { (s : ℕ) → holds pool.old s ≡ held table.old.entries s }
-    requires files { FilesStand session.old.state pool.old table.old }
+    requires files { FilesStand N.digest_of session.old.state pool.old table.old }
     ensures stands { IsBackedBy N.digest_of pool.new table.new.entries }
     ensures alone { (s : ℕ) → holds pool.new s ≡ held table.new.entries s }
     ensures files { IfOk result (λ more. more ≡ true
-        → FilesStand session.new.state pool.new table.new) }
+        → FilesStand N.digest_of session.new.state pool.new table.new) }
 {
     match step {
         Step::Take(item) => {
@@ -382,7 +382,7 @@ fn take_all<N: Naming>(
 ) -> u16
     requires stands { IsBackedBy N.digest_of pool.old table.old.entries }
     requires alone { (s : ℕ) → holds pool.old s ≡ held table.old.entries s }
-    requires files { FilesStand session.old.state pool.old table.old }
+    requires files { FilesStand N.digest_of session.old.state pool.old table.old }
     ensures stands { IsBackedBy N.digest_of pool.new table.new.entries }
 {
     for text in steps.split('|') {

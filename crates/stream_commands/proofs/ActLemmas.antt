@@ -79,7 +79,7 @@ named_carried (Err refusal) line w out out' result shown = line_carried
 pub blob_carried : (digest : List ℕ → List ℕ) (content : Content) (mark : Option ℕ) (id : List ℕ)
     (state : StreamState) (before after : Marks) (p : Cells) (t : View) (q : Cells) (v : View) (refs : RefStore)
     (out : List ℕ) → room_for before mark ≡ Ok tt → IsStored digest content p t q v id
-    → after ≡ with_mark before mark kind.Blob id → FilesStand state p t
+    → after ≡ with_mark before mark kind.Blob id → FilesStand digest state p t
     → CarriesOut (blob_stored digest mark content
     (workspace_in (marked state before) p t refs))
     (workspace_in (marked state after) q v refs) out out (Ok tt)

@@ -1,10 +1,8 @@
 -- A chain of first parents, and ends of tags, stay so where objects are only added.
-use Rattle.std.proofs.Common.{◌≡◌, ℕ, Bool, true, false, if◌then◌else◌, List, [], ◌∷◌, ◌++◌, All, Option, None, Some, Ok, refl, sym, ap, subst, ◌∙◌}
+use Rattle.std.proofs.Common.{◌≡◌, ℕ, Bool, true, false, if◌then◌else◌, List, [], ◌∷◌, ◌++◌, Option, None, Some, Ok, refl, sym, ap, subst, ◌∙◌}
 use Rattle.std.specs.Prelude.{slice_get, unwrap_or}
 use Rattle.std.specs.Option.{option_and_then, option_map_or}
-use Rattle.std.proofs.lemmas.List.Elements.{All-map}
-use Rattle.git_model.specs.Content.{Content, name_by, no_content}
-use Rattle.git_model.specs.GoodRepository.{AreObjects}
+use Rattle.git_model.specs.Content.{Content, no_content}
 use Rattle.git_model.specs.declared.kind.Kind.TheVariants as kind
 use Rattle.git_model.specs.Peeling.{at_once, later, is_no_tag, is_there_untagged, next_from, next_to}
 use Rattle.git_model.specs.References.{parents_in}
@@ -12,16 +10,15 @@ use Rattle.git_model.specs.Repository.{Object, object_named}
 use Rattle.git_model.proofs.Growing.{longer, prefix_is}
 use Rattle.git_model.proofs.Places.{stands_at}
 use Rattle.content_pool.specs.Pool.{Cells}
-use Rattle.tenant_tables.specs.IsBackedBy.{IsBackedBy}
 use Rattle.tenant_tables.specs.Objects.{objects}
-use Rattle.tenant_tables.specs.View.{Entries, View}
+use Rattle.tenant_tables.specs.View.{View}
 use Rattle.open_commits.specs.Calls.{AddsOnly}
 use Rattle.revisions.specs.declared.fault.Fault.TheVariants as fault
 use Rattle.git_model.specs.Results.{or_fault}
 use Rattle.revisions.specs.declared.tag_ends.ChainCache.{ChainCache}
 use Rattle.revisions.specs.FirstParents.{FollowFirstParents, IsFirstParentChain}
 use Rattle.revisions.specs.Resolution.{nth_parent}
-use Rattle.revisions.specs.TagEnds.{AreChains, AreTagEnds, EndsAt}
+use Rattle.revisions.specs.TagEnds.{AreTagEnds, EndsAt}
 use Rattle.stream_commands.specs.Held.{ChainStands}
 
 -- the first parent of a commit that is there
@@ -84,57 +81,26 @@ pub ends_longer : (os more : List Object) (tags : List (List ℕ × List ℕ)) �
     → AreTagEnds (os ++ more) tags
 ends_longer os more tags ends tag end kept = way_longer os more tag end (ends tag end kept)
 
-chain_longer : (os more : List Object) (chain : ChainCache) → ChainStands os chain
-    → ChainStands (os ++ more) chain
-chain_longer os more chain stands digest good =
-    let are = stands digest (prefix_is digest os more good) in
-    record {
-      commits = commits_longer os more chain.first_parents are.commits;
-      tags = ends_longer os more chain.tags are.tags;
-    }
+module _ (digest : List ℕ → List ℕ) where
+  chain_longer : (os more : List Object) (chain : ChainCache) → ChainStands digest os chain
+      → ChainStands digest (os ++ more) chain
+  chain_longer os more chain stands good =
+      let are = stands (prefix_is digest os more good) in
+      record {
+        commits = commits_longer os more chain.first_parents are.commits;
+        tags = ends_longer os more chain.tags are.tags;
+      }
 
--- where one object may be added
-pub chain_with : (there : Bool) (os : List Object) (o : Object) (chain : ChainCache)
-    → ChainStands os chain → ChainStands (if there then os else os ++ o ∷ []) chain
-chain_with true os o chain stands = stands
-chain_with false os o chain stands = chain_longer os (o ∷ []) chain stands
+  -- where one object may be added
+  pub chain_with : (there : Bool) (os : List Object) (o : Object) (chain : ChainCache)
+      → ChainStands digest os chain → ChainStands digest (if there then os else os ++ o ∷ []) chain
+  chain_with true os o chain stands = stands
+  chain_with false os o chain stands = chain_longer os (o ∷ []) chain stands
 
--- where a call adds objects
-pub chain_stands : (p : Cells) (t : View) (q : Cells) (u : View) → AddsOnly p t q u
-    → (chain : ChainCache) → ChainStands (objects p t.entries) chain
-    → ChainStands (objects q u.entries) chain
-chain_stands p t q u adds chain stands =
-    subst (λ (os : List Object). ChainStands os chain) (sym adds.objects)
-    (chain_longer (objects p t.entries) adds.more chain stands)
-
--- the objects of a table are named by the digest of its pool
-names_backed : (digest : List ℕ → List ℕ) (pool : Cells) (entries : Entries)
-    → IsBackedBy digest pool entries
-    → All (λ (o : Object). o.id ≡ name_by digest o.content) (objects pool entries)
-unfolding objects
-names_backed digest pool entries backed =
-    All-map (λ (o : Object). o.id ≡ name_by digest o.content) _ entries backed.named
-
--- so they are good by this digest if they are by any
-pub good_backed : (digest other : List ℕ → List ℕ) (pool : Cells) (entries : Entries)
-    → IsBackedBy digest pool entries → AreObjects other (objects pool entries)
-    → AreObjects digest (objects pool entries)
-good_backed digest other pool entries backed good = record {
-  each = λ i o lt. let is = good.each i o lt in record {
-    name = is.name;
-    named = names_backed digest pool entries backed i o lt;
-    valid = is.valid;
-    short = is.short;
-  };
-  distinct = good.distinct;
-  connected = good.connected;
-  few = good.few;
-}
-
--- a chain that a call leaves over the objects of a table
-pub chain_left : (digest : List ℕ → List ℕ) (pool : Cells) (entries : Entries) (old new : ChainCache)
-    → IsBackedBy digest pool entries → ChainStands (objects pool entries) old
-    → (AreObjects digest (objects pool entries) → AreChains (objects pool entries) old
-    → AreChains (objects pool entries) new) → ChainStands (objects pool entries) new
-chain_left digest pool entries old new backed stands keeps other good =
-    let own = good_backed digest other pool entries backed good in keeps own (stands digest own)
+  -- where a call adds objects
+  pub chain_stands : (p : Cells) (t : View) (q : Cells) (u : View) → AddsOnly p t q u
+      → (chain : ChainCache) → ChainStands digest (objects p t.entries) chain
+      → ChainStands digest (objects q u.entries) chain
+  chain_stands p t q u adds chain stands =
+      subst (λ (os : List Object). ChainStands digest os chain) (sym adds.objects)
+      (chain_longer (objects p t.entries) adds.more chain stands)

@@ -66,14 +66,14 @@ module _ (digest : List ℕ → List ℕ) (content : Content) (os more : List Ob
       ap (λ (c : OpenCommit). Inline c file) (commit_same held stands)
   command_same _ stands = refl
 
-  chain_grown : (chain : ChainCache) → ChainStands os chain → ChainStands more chain
+  chain_grown : (chain : ChainCache) → ChainStands digest os chain → ChainStands digest more chain
   chain_grown chain stands =
-      subst (λ (l : List Object). ChainStands l chain)
+      subst (λ (l : List Object). ChainStands digest l chain)
       (stored_is (name_by digest content) content os more
       (store_fault (name_by digest content) content os) is)
-      (chain_with (is_some (object_named (name_by digest content) os)) os _ chain stands)
+      (chain_with digest (is_some (object_named (name_by digest content) os)) os _ chain stands)
 
-  pub files_grown : (state : StreamState) → HoldsFiles os state → HoldsFiles more state
+  pub files_grown : (state : StreamState) → HoldsFiles digest os state → HoldsFiles digest more state
   files_grown state holds = record {
     command = command_grown state.stream.command holds.command;
     kept = kept_grown state.kept holds.kept;
@@ -95,18 +95,20 @@ where_ok (Ok value) holds = holds
 where_ok (Err e) holds = tt
 
 -- a commit that changed is the open one again, beside what is kept
-pub open_again : (os : List Object) (state : StreamState) (commit : HeldCommit)
+pub open_again : (digest : List ℕ → List ℕ) (os : List Object) (state : StreamState) (commit : HeldCommit)
     (r : Result Unit CommitFault) → OnOk r (Stands os commit) → AreBranches os state.kept
-    → ChainStands os state.chain → OnOk (changed_or r) (HoldsFiles os (state_with state (Changes commit)))
-open_again os state commit (Ok u) stands kept chain = record {
+    → ChainStands digest os state.chain
+    → OnOk (changed_or r) (HoldsFiles digest os (state_with state (Changes commit)))
+open_again digest os state commit (Ok u) stands kept chain = record {
   command = stands;
   kept = kept;
   chain = chain;
 }
-open_again os state commit (Err e) stands kept chain = tt
+open_again digest os state commit (Err e) stands kept chain = tt
 
 -- what stands in any case stands where a call was carried out
-pub still_held : {A : Type 0} (r : Result A Fault) (os : List Object) (old new : StreamState)
-    → KeepsBranchFiles old new → HoldsFiles os old → OnOk r (HoldsFiles os new)
-still_held (Ok value) os old new keeps holds = keeps os holds
-still_held (Err e) os old new keeps holds = tt
+pub still_held : {A : Type 0} (r : Result A Fault) (digest : List ℕ → List ℕ) (os : List Object)
+    (old new : StreamState) → KeepsBranchFiles old new → HoldsFiles digest os old
+    → OnOk r (HoldsFiles digest os new)
+still_held (Ok value) digest os old new keeps holds = keeps digest os holds
+still_held (Err e) digest os old new keeps holds = tt

@@ -21,20 +21,21 @@ HoldsOpen os _ = Unit {0}
 
 -- Among good objects a chain of commits is one of first parents, and tags lead to what is kept as
 -- their ends.
-abbrev pub ChainStands : List Object → ChainCache → Type 0
-ChainStands os chain = (digest : List ℕ → List ℕ) → AreObjects digest os → AreChains os chain
+abbrev pub ChainStands : (List ℕ → List ℕ) → List Object → ChainCache → Type 0
+ChainStands digest os chain = AreObjects digest os → AreChains os chain
 
 -- All files are branches among the objects: each tree that they name is one of them. The chain stands
 -- among them too.
-pub record HoldsFiles (os : List Object) (state : StreamState) : Type 0 where
+pub record HoldsFiles (digest : List ℕ → List ℕ) (os : List Object) (state : StreamState) : Type 0 where
   pub command : HoldsOpen os state.stream.command
   pub kept : AreBranches os state.kept
-  pub chain : ChainStands os state.chain
+  pub chain : ChainStands digest os state.chain
 
 -- The same among those of a table over a pool.
-abbrev pub FilesStand : StreamState → Cells → View → Type 0
-FilesStand state pool table = HoldsFiles (objects pool table.entries) state
+abbrev pub FilesStand : (List ℕ → List ℕ) → StreamState → Cells → View → Type 0
+FilesStand digest state pool table = HoldsFiles digest (objects pool table.entries) state
 
 -- Among whatever objects all stood before a call, all stand after it.
 abbrev pub KeepsBranchFiles : StreamState → StreamState → Type 0
-KeepsBranchFiles old new = (os : List Object) → HoldsFiles os old → HoldsFiles os new
+KeepsBranchFiles old new = (digest : List ℕ → List ℕ) (os : List Object) → HoldsFiles digest os old
+    → HoldsFiles digest os new

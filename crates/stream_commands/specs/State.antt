@@ -2,6 +2,7 @@
 -- nor among refs; and the workspace that it is part of.
 use Rattle.std.specs.Prelude.{◌≡◌, ◌≢◌, ℕ, List, [], ◌++◌, take, Result, Ok, Err}
 use Rattle.git_model.specs.RefStore.{RefStore}
+use Rattle.git_model.specs.Repository.{Object}
 use Rattle.content_pool.specs.Pool.{Cells}
 use Rattle.tenant_tables.specs.Objects.{objects}
 use Rattle.tenant_tables.specs.View.{View}
@@ -68,15 +69,20 @@ branched state branches =
 abbrev pub marked : StreamState → Marks → StreamState
 marked state marks = record state { stream = record state.stream { marks = marks } }
 
--- The workspace of a stream whose objects are in a table over a pool. The files of the open commit
--- are those that its branch means among these objects.
-abbrev pub workspace_in : StreamState → Cells → View → RefStore → Workspace
-workspace_in state pool table refs = record {
-  objects = objects pool table.entries;
-  committed = table.committed;
+-- The workspace of a stream over objects, so many of which are committed. The files of the open
+-- commit are those that its branch means among these objects.
+abbrev pub workspace_over : StreamState → List Object → ℕ → RefStore → Workspace
+workspace_over state objects committed refs = record {
+  objects = objects;
+  committed = committed;
   refs = refs;
-  stream = stream_with (commit_in (objects pool table.entries)) state.stream;
+  stream = stream_with (commit_in objects) state.stream;
 }
+
+-- The same where the objects are in a table over a pool.
+abbrev pub workspace_in : StreamState → Cells → View → RefStore → Workspace
+workspace_in state pool table refs =
+    workspace_over state (objects pool table.entries) table.committed refs
 
 -- An act, or the end of the stream, was carried out: it left this workspace and printed its reply;
 -- or its refusal was answered. `Memory` may take the place of either.

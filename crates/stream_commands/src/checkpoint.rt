@@ -1,16 +1,14 @@
 //! Checkpoints: git-fast-import(1), "checkpoint"; and "fast-forward" of gitglossary(7).
 
-ghost use Rattle.std.specs.Prelude.{◌≡◌, ◌++◌, IfOk, IfErr, OnOk, OnErr};
+ghost use Rattle.std.specs.Prelude.{◌≡◌, ◌++◌, ℕ, IfOk, IfErr, OnOk, OnErr};
 ghost use Rattle.git_model.specs.GoodRepository.{AreObjects};
-ghost use Rattle.content_pool.specs.Pool.{Cells};
-ghost use Rattle.tenant_tables.specs.View.{View};
 ghost use Rattle.tenant_refs.specs.Changes.{with_changes};
 ghost use Rattle.tenant_tables.specs.Objects.{objects};
 ghost use Rattle.tenant_tables.specs.IsBackedBy.{IsBackedBy};
 ghost use Rattle.stream_parts.specs.Checkpoints.{by_tags};
 ghost use Rattle.stream_commands.specs.Checkpoints.{by_branches, checkpoint, kept_by, kept_lines, moves, saved_by};
 ghost use Rattle.stream_commands.specs.Held.{KeepsBranchFiles};
-ghost use Rattle.stream_commands.specs.State.{state_shown, workspace_in, CarriesOut};
+ghost use Rattle.stream_commands.specs.State.{state_shown, workspace_in, workspace_over, CarriesOut};
 
 use crate::state::StreamState;
 use commit_walk::Ancestry;
@@ -33,10 +31,10 @@ fn moves<N: Naming>(
     ref_name: &RefName,
     tip: &Name,
 ) -> Result<bool, Fault>
-    ensures judged { AreObjects N.digest_of ancestry.old → (pool : Cells) (table : View)
-        → ancestry.old ≡ objects pool table.entries
+    ensures judged { (committed : ℕ) → AreObjects N.digest_of ancestry.old
         → IfOk result (λ yes. yes ≡ moves
-        (workspace_in (state_shown state.now) pool table refs.now) ref_name.now tip.now) }
+        (workspace_over (state_shown state.now) ancestry.old committed refs.now) ref_name.now
+        tip.now) }
     ensures refused { IfErr result (λ fault. fault ≡ Fault.Memory) }
     ensures same { ancestry.new ≡ ancestry.old }
 {
@@ -54,9 +52,8 @@ fn add_branch<N: Naming>(
     branch: (&RefName, &Tip),
     saving: &mut Saving,
 ) -> Result<(), Fault>
-    ensures saved { AreObjects N.digest_of ancestry.old → (pool : Cells) (table : View)
-        → ancestry.old ≡ objects pool table.entries → OnOk result
-        (let workspace = workspace_in (state_shown state.now) pool table refs.now in
+    ensures saved { (committed : ℕ) → AreObjects N.digest_of ancestry.old → OnOk result
+        (let workspace = workspace_over (state_shown state.now) ancestry.old committed refs.now in
         (with_changes refs.now saving.new.changes.items ≡ saved_by workspace
         (with_changes refs.now saving.old.changes.items) branch.entry.0.now branch.entry.1.now)
         × (saving.new.kept.items ≡ saving.old.kept.items
@@ -84,9 +81,8 @@ fn add_branches<N: Naming>(
     state: &StreamState,
     saving: &mut Saving,
 ) -> Result<(), Fault>
-    ensures saved { AreObjects N.digest_of ancestry.old → (pool : Cells) (table : View)
-        → ancestry.old ≡ objects pool table.entries → OnOk result
-        (let workspace = workspace_in (state_shown state.now) pool table refs.now in
+    ensures saved { (committed : ℕ) → AreObjects N.digest_of ancestry.old → OnOk result
+        (let workspace = workspace_over (state_shown state.now) ancestry.old committed refs.now in
         (with_changes refs.now saving.new.changes.items ≡ by_branches workspace
         (with_changes refs.now saving.old.changes.items) workspace.stream.branches)
         × (saving.new.kept.items
@@ -102,15 +98,12 @@ fn add_branches<N: Naming>(
 
 // What a checkpoint is to do: first for the branches in order, and then for the tags.
 fn saving_of<N: Naming>(
-    pool: &Pool<N>,
-    table: &Table,
+    objects: Objects<'_, N>,
     refs: &Refs,
     state: &StreamState,
 ) -> Result<Saving, Fault>
-    requires { IsBackedBy N.digest_of pool.now table.now.entries }
-    ensures saved { AreObjects N.digest_of (objects pool.now table.now.entries)
-        → IfOk result (λ saving.
-        let workspace = workspace_in (state_shown state.now) pool.now table.now refs.now in
+    ensures saved { (committed : ℕ) → AreObjects N.digest_of objects.entry → IfOk result (λ saving.
+        let workspace = workspace_over (state_shown state.now) objects.entry committed refs.now in
         (with_changes refs.now saving.changes.items ≡ by_tags
         (by_branches workspace workspace.refs workspace.stream.branches) workspace.stream.tags)
         × (saving.kept.items ≡ kept_lines workspace workspace.stream.branches)) }
@@ -120,7 +113,7 @@ fn saving_of<N: Naming>(
         changes: Vec::new(state.alloc),
         kept: Vec::new(state.alloc),
     };
-    let mut ancestry = Ancestry::of(Objects::of(pool, table, Sight::All));
+    let mut ancestry = Ancestry::of(objects);
     add_branches(&mut ancestry, refs, state, &mut saving)?;
     add_tags(state.alloc, &state.tags, &mut saving.changes)?;
     Ok(saving)
@@ -148,7 +141,7 @@ pub fn save<N: Naming>(
     ensures printed { OnErr result (out.new.items ≡ out.old.items) }
     ensures files { KeepsBranchFiles (state_shown state.old) (state_shown state.new) }
 {
-    let saving = saving_of(pool, table, refs, state)?;
+    let saving = saving_of(Objects::of(pool, table, Sight::All), refs, state)?;
     carry_out(saving, refs, out)?;
     save_head(refs, state.head.take());
     state.tags.clear();

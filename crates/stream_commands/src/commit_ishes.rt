@@ -3,21 +3,17 @@
 //! A commit-ish is looked up among the stream's marks and branches, all objects so far and the refs
 //! as last saved. Nothing here changes them. The state keeps the commits of a walk for the next one.
 
-ghost use Rattle.std.specs.Prelude.{◌≡◌};
+ghost use Rattle.std.specs.Prelude.{◌≡◌, List, ℕ};
 ghost use Rattle.git_model.specs.GoodRepository.{AreObjects};
-ghost use Rattle.tenant_tables.specs.Objects.{objects};
-ghost use Rattle.tenant_tables.specs.IsBackedBy.{IsBackedBy};
-ghost use Rattle.content_pool.specs.Pool.{Cells};
-ghost use Rattle.tenant_tables.specs.View.{View};
+ghost use Rattle.git_model.specs.Repository.{Object};
 ghost use Rattle.stream_grammar.specs.Names.{Expression};
 ghost use Rattle.stream_grammar.specs.Shown.{commit_shown};
 ghost use Rattle.stream_parts.specs.Faults.{Gives};
 ghost use Rattle.stream_commands.specs.CommitIshes.{commit_in, is_branch, named_in, start_in};
 ghost use Rattle.stream_commands.specs.Held.{ChainStands};
-ghost use Rattle.stream_commands.specs.State.{state_shown, workspace_in};
+ghost use Rattle.stream_commands.specs.State.{state_shown, workspace_over};
 
 use crate::state::StreamState;
-use content_pool::Pool;
 use git_objects::{Kind, Name, Naming};
 use stream_grammar::CommitIsh;
 use stream_parts::branches::meant;
@@ -25,29 +21,27 @@ use stream_parts::commit_ishes::{commit_at, peel_with_chain, resolve_words};
 use stream_parts::fault::Fault;
 use stream_parts::marks;
 use tenant_refs::{RefName, Refs};
-use tenant_tables::Table;
+use tenant_tables::Objects;
 
 // What words stand for: the commit of a branch of the stream, or what an expression names.
 fn words_named<N: Naming>(
-    pool: &Pool<N>,
-    table: &Table,
+    objects: &Objects<'_, N>,
     refs: &Refs,
     state: &mut StreamState,
     words: &[u8],
 ) -> Result<Name, Fault>
-    requires stands { IsBackedBy N.digest_of pool.now table.now.entries }
-    requires chain { ChainStands (objects pool.now table.now.entries) state.old.chain }
-    ensures named { AreObjects N.digest_of (objects pool.now table.now.entries) → Gives result
-        (named_in (workspace_in (state_shown state.old) pool.now table.now refs.now)
+    requires chain { ChainStands N.digest_of objects.now state.old.chain }
+    ensures named { (committed : ℕ) → AreObjects N.digest_of objects.now → Gives result
+        (named_in (workspace_over (state_shown state.old) objects.now committed refs.now)
         (Expression words.now)) }
     ensures same { state_shown state.new
         ≡ record (state_shown state.old) { chain = state.new.chain } }
-    ensures chain { ChainStands (objects pool.now table.now.entries) state.new.chain }
+    ensures chain { ChainStands N.digest_of objects.now state.new.chain }
 {
     let name = meant(&state.head, refs, words);
     match state.branches.tip_of(state.alloc, name)? {
         Some(tip) => commit_at(tip),
-        None => { resolve_words(state.alloc, pool, table, refs, &mut state.chain, words) }
+        None => { resolve_words(state.alloc, objects, refs, &mut state.chain, words) }
     }
 }
 
@@ -60,24 +54,22 @@ fn words_named<N: Naming>(
 /// `Fault::Ambiguous` (17) if several object names begin with the abbreviation. `Fault::Memory`
 /// (90) if an allocation fails. The contract says what the answer is if the objects are good.
 pub fn named<N: Naming>(
-    pool: &Pool<N>,
-    table: &Table,
+    objects: &Objects<'_, N>,
     refs: &Refs,
     state: &mut StreamState,
     commit: &CommitIsh<'_>,
 ) -> Result<Name, Fault>
-    requires stands { IsBackedBy N.digest_of pool.now table.now.entries }
-    requires chain { ChainStands (objects pool.now table.now.entries) state.old.chain }
-    ensures named { AreObjects N.digest_of (objects pool.now table.now.entries) → Gives result
-        (named_in (workspace_in (state_shown state.old) pool.now table.now refs.now)
+    requires chain { ChainStands N.digest_of objects.now state.old.chain }
+    ensures named { (committed : ℕ) → AreObjects N.digest_of objects.now → Gives result
+        (named_in (workspace_over (state_shown state.old) objects.now committed refs.now)
         (commit_shown commit.now)) }
     ensures same { state_shown state.new
         ≡ record (state_shown state.old) { chain = state.new.chain } }
-    ensures chain { ChainStands (objects pool.now table.now.entries) state.new.chain }
+    ensures chain { ChainStands N.digest_of objects.now state.new.chain }
 {
     match commit {
         CommitIsh::Mark(mark) => marks::find(&state.marks, *mark),
-        CommitIsh::Expression(words) => words_named(pool, table, refs, state, words),
+        CommitIsh::Expression(words) => words_named(objects, refs, state, words),
     }
 }
 
@@ -86,29 +78,27 @@ pub fn named<N: Naming>(
 /// The refusals are those of `named`, and `Fault::WrongKind` (15) if the object is no commit and no
 /// tag of one.
 pub fn commit_named<N: Naming>(
-    pool: &Pool<N>,
-    table: &Table,
+    objects: &Objects<'_, N>,
     refs: &Refs,
     state: &mut StreamState,
     commit: &CommitIsh<'_>,
 ) -> Result<Name, Fault>
-    requires stands { IsBackedBy N.digest_of pool.now table.now.entries }
-    requires chain { ChainStands (objects pool.now table.now.entries) state.old.chain }
-    ensures named { AreObjects N.digest_of (objects pool.now table.now.entries) → Gives result
-        (commit_in (workspace_in (state_shown state.old) pool.now table.now refs.now)
+    requires chain { ChainStands N.digest_of objects.now state.old.chain }
+    ensures named { (committed : ℕ) → AreObjects N.digest_of objects.now → Gives result
+        (commit_in (workspace_over (state_shown state.old) objects.now committed refs.now)
         (commit_shown commit.now)) }
     ensures same { state_shown state.new
         ≡ record (state_shown state.old) { chain = state.new.chain } }
-    ensures chain { ChainStands (objects pool.now table.now.entries) state.new.chain }
+    ensures chain { ChainStands N.digest_of objects.now state.new.chain }
 {
-    let id = named(pool, table, refs, state, commit)?;
-    peel_with_chain(state.alloc, pool, table, &mut state.chain, Kind::Commit, id)
+    let id = named(objects, refs, state, commit)?;
+    peel_with_chain(state.alloc, objects, &mut state.chain, Kind::Commit, id)
 }
 
 // Whether a commit-ish is the branch itself, perhaps as `HEAD`.
 fn is_branch(state: &StreamState, refs: &Refs, ref_name: &RefName, commit: &CommitIsh<'_>) -> bool
-    ensures { (pool : Cells) (table : View) → result
-        ≡ is_branch (workspace_in (state_shown state.now) pool table refs.now) ref_name.now
+    ensures { (os : List Object) (committed : ℕ) → result
+        ≡ is_branch (workspace_over (state_shown state.now) os committed refs.now) ref_name.now
         (commit_shown commit.now) }
 {
     match commit {
@@ -122,24 +112,22 @@ fn is_branch(state: &StreamState, refs: &Refs, ref_name: &RefName, commit: &Comm
 /// `Fault::BranchFromItself` (19) if the commit-ish is the branch itself, perhaps as `HEAD`; this
 /// is judged first. The other refusals are those of `commit_named`.
 pub fn start_of<N: Naming>(
-    pool: &Pool<N>,
-    table: &Table,
+    objects: &Objects<'_, N>,
     refs: &Refs,
     state: &mut StreamState,
     ref_name: &RefName,
     from: &CommitIsh<'_>,
 ) -> Result<Name, Fault>
-    requires stands { IsBackedBy N.digest_of pool.now table.now.entries }
-    requires chain { ChainStands (objects pool.now table.now.entries) state.old.chain }
-    ensures started { AreObjects N.digest_of (objects pool.now table.now.entries) → Gives result
-        (start_in (workspace_in (state_shown state.old) pool.now table.now refs.now) ref_name.now
+    requires chain { ChainStands N.digest_of objects.now state.old.chain }
+    ensures started { (committed : ℕ) → AreObjects N.digest_of objects.now → Gives result
+        (start_in (workspace_over (state_shown state.old) objects.now committed refs.now) ref_name.now
         (commit_shown from.now)) }
     ensures same { state_shown state.new
         ≡ record (state_shown state.old) { chain = state.new.chain } }
-    ensures chain { ChainStands (objects pool.now table.now.entries) state.new.chain }
+    ensures chain { ChainStands N.digest_of objects.now state.new.chain }
 {
     if is_branch(state, refs, ref_name, from) {
         return Err(Fault::BranchFromItself);
     }
-    commit_named(pool, table, refs, state, from)
+    commit_named(objects, refs, state, from)
 }

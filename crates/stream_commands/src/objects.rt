@@ -1,6 +1,6 @@
 //! Blobs and tags: git-fast-import(1), "blob" and "tag".
 
-ghost use Rattle.std.specs.Prelude.{◌≡◌, OnErr, OnOk, List, ℕ};
+ghost use Rattle.std.specs.Prelude.{OnErr, OnOk, List, ℕ};
 ghost use Rattle.git_model.specs.GoodRepository.{AreObjects};
 ghost use Rattle.git_model.specs.RefStore.{RefStore};
 ghost use Rattle.content_pool.specs.Pool.{Cells, HasHoldsLeft};
@@ -41,13 +41,13 @@ fn store_marked<N: Naming>(
     requires room { HasHoldsLeft pool.old }
     ensures keeps { Keeps N.digest_of pool.old table.old pool.new table.new }
     ensures done { (state : StreamStateShown) (refs : RefStore) (out : List ℕ)
-        → FilesStand state pool.old table.old → CarriesOut
+        → FilesStand N.digest_of state pool.old table.old → CarriesOut
         (object_stored N.digest_of (Blob mark contents.now)
         (workspace_in (marked state marks.old.entries) pool.old table.old refs))
         (workspace_in (marked state marks.new.entries) pool.new table.new refs)
         out out result }
-    ensures held { (state : StreamStateShown) → FilesStand state pool.old table.old
-        → FilesStand state pool.new table.new }
+    ensures held { (state : StreamStateShown) → FilesStand N.digest_of state pool.old table.old
+        → FilesStand N.digest_of state pool.new table.new }
     ensures same { OnErr result (IsUnchanged pool.old table.old pool.new table.new) }
 {
     marks::make_room(marks, &mark)?;
@@ -127,14 +127,14 @@ pub fn carry_out_object<N: Naming>(
 ) -> Result<(), Fault>
     requires stands { IsBackedBy N.digest_of pool.old table.old.entries }
     requires room { HasHoldsLeft pool.old }
-    requires held { FilesStand (state_shown state.old) pool.old table.old }
+    requires held { FilesStand N.digest_of (state_shown state.old) pool.old table.old }
     ensures keeps { Keeps N.digest_of pool.old table.old pool.new table.new }
     ensures done { (out : List ℕ) → AreObjects N.digest_of (objects pool.old table.old.entries)
         → CarriesOut (object_stored N.digest_of (object_shown command.now)
         (workspace_in (state_shown state.old) pool.old table.old refs.now))
         (workspace_in (state_shown state.new) pool.new table.new refs.now) out out result }
     ensures same { OnErr result (IsUnchanged pool.old table.old pool.new table.new) }
-    ensures held { OnOk result (FilesStand (state_shown state.new) pool.new table.new) }
+    ensures held { OnOk result (FilesStand N.digest_of (state_shown state.new) pool.new table.new) }
 {
     match command {
         ObjectCommand::Blob { mark, contents } => {

@@ -25,7 +25,7 @@ use stream_parts::entries::print_stored;
 use stream_parts::fault::Fault;
 use stream_parts::objects::{print_marked, print_referred};
 use stream_parts::print::print_line;
-use tenant_tables::Table;
+use tenant_tables::{Objects, Sight, Table};
 
 // 'ls' with a path alone: prints what is at the path in the open commit.
 #[tactic(auto, unfolding(crate::specs::Replies::replied))]
@@ -38,7 +38,7 @@ fn show_entry<N: Naming>(
 ) -> Result<(), Fault>
     requires stands { IsBackedBy N.digest_of pool.old table.old.entries }
     requires room { HasHoldsLeftBeside pool.old table.old.entries }
-    requires held { FilesStand (state_shown state.old) pool.old table.old }
+    requires held { FilesStand N.digest_of (state_shown state.old) pool.old table.old }
     ensures keeps { Keeps N.digest_of pool.old table.old pool.new table.new }
     ensures done { (refs : RefStore) → CarriesOut
         (replied N.digest_of (LsInCommit path.now)
@@ -47,7 +47,7 @@ fn show_entry<N: Naming>(
         out.old.items out.new.items result }
     ensures committed { KeepsCommitted pool.old table.old pool.new table.new }
     ensures printed { OnErr result (out.new.items ≡ out.old.items) }
-    ensures held { OnOk result (FilesStand (state_shown state.new) pool.new table.new) }
+    ensures held { OnOk result (FilesStand N.digest_of (state_shown state.new) pool.new table.new) }
 {
     let OpenCommand::Changes(commit) = &mut state.command else {
         return Err(not_open());
@@ -81,7 +81,7 @@ pub fn carry_out_reply<N: Naming>(
 ) -> Result<(), Fault>
     requires stands { IsBackedBy N.digest_of pool.old table.old.entries }
     requires room { HasHoldsLeftBeside pool.old table.old.entries }
-    requires held { FilesStand (state_shown state.old) pool.old table.old }
+    requires held { FilesStand N.digest_of (state_shown state.old) pool.old table.old }
     ensures keeps { Keeps N.digest_of pool.old table.old pool.new table.new }
     ensures done { (refs : RefStore) → AreObjects N.digest_of (objects pool.old table.old.entries)
         → CarriesOut (replied N.digest_of (reply_shown command.now)
@@ -90,13 +90,17 @@ pub fn carry_out_reply<N: Naming>(
         out.old.items out.new.items result }
     ensures committed { KeepsCommitted pool.old table.old pool.new table.new }
     ensures printed { OnErr result (out.new.items ≡ out.old.items) }
-    ensures held { OnOk result (FilesStand (state_shown state.new) pool.new table.new) }
+    ensures held { OnOk result (FilesStand N.digest_of (state_shown state.new) pool.new table.new) }
 {
     match command {
         ReplyCommand::GetMark(mark) => print_marked(&state.marks, *mark, out),
-        ReplyCommand::CatBlob(object) => print_referred(pool, table, &state.marks, *object, out),
+        ReplyCommand::CatBlob(object) => {
+            let objects = Objects::of(pool, table, Sight::All);
+            print_referred(&objects, &state.marks, *object, out)
+        }
         ReplyCommand::Ls { root, path } => {
-            print_stored(state.alloc, pool, table, &state.marks, *root, path, out)
+            let objects = Objects::of(pool, table, Sight::All);
+            print_stored(state.alloc, &objects, &state.marks, *root, path, out)
         }
         ReplyCommand::LsInCommit(path) => show_entry(pool, table, state, path, out),
         ReplyCommand::Progress(line) => Ok(print_line(line, out)?),

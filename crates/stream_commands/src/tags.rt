@@ -12,7 +12,7 @@ ghost use Rattle.stream_commands.specs.Objects.{object_stored};
 ghost use Rattle.stream_commands.specs.Tags.{tagged};
 ghost use Rattle.stream_commands.specs.Lent.{IsUnchanged, Keeps};
 ghost use Rattle.stream_commands.specs.Held.{ChainStands, FilesStand};
-ghost use Rattle.stream_commands.specs.State.{state_shown, workspace_in, CarriesOut};
+ghost use Rattle.stream_commands.specs.State.{state_shown, workspace_in, workspace_over, CarriesOut};
 
 use crate::commit_ishes::named;
 use crate::open_command::{OpenCommand, not_open};
@@ -25,33 +25,31 @@ use stream_parts::headers::TagHeader;
 use stream_parts::marks;
 use stream_parts::tags::{make_room, store_written, tagged_kind};
 use tenant_refs::Refs;
-use tenant_tables::Table;
+use tenant_tables::{Objects, Sight, Table};
 
 // The tagged object and its kind. Makes room for the tag's mark and for one more tag.
 fn tagged<N: Naming>(
-    pool: &Pool<N>,
-    table: &Table,
+    objects: &Objects<'_, N>,
     refs: &Refs,
     state: &mut StreamState,
     header: &TagHeader,
     mark: &Option<Mark>,
 ) -> Result<(Name, Kind), Fault>
-    requires stands { IsBackedBy N.digest_of pool.now table.now.entries }
-    requires chain { ChainStands (objects pool.now table.now.entries) state.old.chain }
-    ensures tagged { AreObjects N.digest_of (objects pool.now table.now.entries) → Gives result
+    requires chain { ChainStands N.digest_of objects.now state.old.chain }
+    ensures tagged { (committed : ℕ) → AreObjects N.digest_of objects.now → Gives result
         (tagged mark.now header.now
-        (workspace_in (state_shown state.old) pool.now table.now refs.now)) }
+        (workspace_over (state_shown state.old) objects.now committed refs.now)) }
     ensures mark { OnOk result (0 < state.new.marks.spare) }
     ensures tag { OnOk result (length state.new.tags.items < vec_capacity state.new.tags) }
     ensures same { state_shown state.new
         ≡ record (state_shown state.old) { chain = state.new.chain } }
-    ensures chain { ChainStands (objects pool.now table.now.entries) state.new.chain }
+    ensures chain { ChainStands N.digest_of objects.now state.new.chain }
 {
     let Some(said) = &header.target else {
         return Err(not_open());
     };
-    let target = named(pool, table, refs, state, &said.lent())?;
-    let kind = tagged_kind(pool, table, target)?;
+    let target = named(objects, refs, state, &said.lent())?;
+    let kind = tagged_kind(objects, target)?;
     marks::make_room(&mut state.marks, mark)?;
     make_room(&mut state.tags)?;
     Ok((target, kind))
@@ -69,20 +67,21 @@ pub fn store_tag<N: Naming>(
 ) -> Result<(), Fault>
     requires stands { IsBackedBy N.digest_of pool.old table.old.entries }
     requires room { HasHoldsLeft pool.old }
-    requires held { FilesStand (state_shown state.old) pool.old table.old }
+    requires held { FilesStand N.digest_of (state_shown state.old) pool.old table.old }
     ensures keeps { Keeps N.digest_of pool.old table.old pool.new table.new }
     ensures done { (out : List ℕ) → AreObjects N.digest_of (objects pool.old table.old.entries)
         → CarriesOut (object_stored N.digest_of (Tag mark message.now)
         (workspace_in (state_shown state.old) pool.old table.old refs.now))
         (workspace_in (state_shown state.new) pool.new table.new refs.now) out out result }
     ensures same { OnErr result (IsUnchanged pool.old table.old pool.new table.new) }
-    ensures held { OnOk result (FilesStand (state_shown state.new) pool.new table.new) }
+    ensures held { OnOk result (FilesStand N.digest_of (state_shown state.new) pool.new table.new) }
 {
     let header = match state.command.take() {
         OpenCommand::Tag(header) => header,
         other => return Err(other.refusal()),
     };
-    let (target, kind) = match tagged(pool, table, refs, state, &header, &mark) {
+    let objects = Objects::of(pool, table, Sight::All);
+    let (target, kind) = match tagged(&objects, refs, state, &header, &mark) {
         Ok(tagged) => tagged,
         Err(fault) => {
             drop(header);

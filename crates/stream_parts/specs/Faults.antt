@@ -1,6 +1,6 @@
 -- Faults: the number of each, for replies and exit statuses; how the faults of the layers below are
 -- passed on; and what a refusal stops.
-use Rattle.std.specs.Prelude.{◌≡◌, ◌≢◌, ℕ, Option, None, Some, Result, Ok, Err}
+use Rattle.std.specs.Prelude.{ℕ, Result, Ok, Err}
 use Rattle.git_model.specs.Results.{GivesOr}
 use Rattle.stream_grammar.specs.declared.fault.Fault.{Fault as TextFault}
 use Rattle.stream_grammar.specs.Faults.{code_of as text_code}

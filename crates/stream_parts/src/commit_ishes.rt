@@ -2,8 +2,6 @@
 
 ghost use Rattle.std.specs.Prelude.{◌≡◌};
 ghost use Rattle.git_model.specs.GoodRepository.{AreObjects};
-ghost use Rattle.tenant_tables.specs.Objects.{objects};
-ghost use Rattle.tenant_tables.specs.IsBackedBy.{IsBackedBy};
 ghost use Rattle.revisions.specs.Resolution.{peeled, resolved};
 ghost use Rattle.revisions.specs.TagEnds.{AreChains};
 ghost use Rattle.stream_parts.specs.declared.fault.Fault.TheVariants as fault;
@@ -14,12 +12,11 @@ ghost use Rattle.stream_parts.specs.Branches.{commit_at};
 
 use crate::branches::Tip;
 use crate::fault::Fault;
-use content_pool::Pool;
 use git_objects::{Kind, Name, Naming};
 use revisions::{ChainCache, Expression, peel, peel_along, resolve_with_tags};
 use std::alloc::Global;
 use tenant_refs::Refs;
-use tenant_tables::{Objects, Sight, Table};
+use tenant_tables::Objects;
 
 fn fault_of(fault: revisions::Fault) -> Fault
     ensures { result ≡ resolving_fault fault }
@@ -49,57 +46,48 @@ fn passed_on(given: Result<Name, revisions::Fault>) -> Result<Name, Fault>
 /// read a commit or a tag.
 pub fn peel_to<N: Naming>(
     alloc: Global,
-    pool: &Pool<N>,
-    table: &Table,
+    objects: &Objects<'_, N>,
     wanted: Kind,
     id: Name,
 ) -> Result<Name, Fault>
-    requires { IsBackedBy N.digest_of pool.now table.now.entries }
-    ensures { let os = objects pool.now table.now.entries in AreObjects N.digest_of os
-        → Gives result (resolved_or (peeled os wanted id)) }
+    ensures { AreObjects N.digest_of objects.now
+        → Gives result (resolved_or (peeled objects.now wanted id)) }
 {
-    let objects = Objects::of(pool, table, Sight::All);
-    passed_on(peel(alloc, &objects, wanted, id))
+    passed_on(peel(alloc, objects, wanted, id))
 }
 
 /// The same, with what earlier calls kept of their ways along tags. The next call can use the chain
 /// that this one leaves, also if objects were added in between.
 pub fn peel_with_chain<N: Naming>(
     alloc: Global,
-    pool: &Pool<N>,
-    table: &Table,
+    objects: &Objects<'_, N>,
     chain: &mut ChainCache,
     wanted: Kind,
     id: Name,
 ) -> Result<Name, Fault>
-    requires { IsBackedBy N.digest_of pool.now table.now.entries }
-    ensures found { let os = objects pool.now table.now.entries in AreObjects N.digest_of os
-        → AreChains os chain.old → Gives result (resolved_or (peeled os wanted id)) }
-    ensures chain { let os = objects pool.now table.now.entries in AreObjects N.digest_of os
-        → AreChains os chain.old → AreChains os chain.new }
+    ensures found { AreObjects N.digest_of objects.now → AreChains objects.now chain.old
+        → Gives result (resolved_or (peeled objects.now wanted id)) }
+    ensures chain { AreObjects N.digest_of objects.now → AreChains objects.now chain.old
+        → AreChains objects.now chain.new }
 {
-    let objects = Objects::of(pool, table, Sight::All);
-    passed_on(peel_along(alloc, &objects, &mut chain.tags, wanted, id))
+    passed_on(peel_along(alloc, objects, &mut chain.tags, wanted, id))
 }
 
 // What an expression names. The chain keeps what the way passed.
 fn resolve<N: Naming>(
     alloc: Global,
-    pool: &Pool<N>,
-    table: &Table,
+    objects: &Objects<'_, N>,
     refs: &Refs,
     chain: &mut ChainCache,
     words: &[u8],
 ) -> Result<Name, revisions::Fault>
-    requires { IsBackedBy N.digest_of pool.now table.now.entries }
-    ensures found { let os = objects pool.now table.now.entries in AreObjects N.digest_of os
-        → AreChains os chain.old → Names result (resolved os refs.now words.now) }
-    ensures chain { let os = objects pool.now table.now.entries in AreObjects N.digest_of os
-        → AreChains os chain.old → AreChains os chain.new }
+    ensures found { AreObjects N.digest_of objects.now → AreChains objects.now chain.old
+        → Names result (resolved objects.now refs.now words.now) }
+    ensures chain { AreObjects N.digest_of objects.now → AreChains objects.now chain.old
+        → AreChains objects.now chain.new }
 {
     let expression = Expression::read(alloc, words)?;
-    let objects = Objects::of(pool, table, Sight::All);
-    resolve_with_tags(alloc, &objects, refs, chain, &expression)
+    resolve_with_tags(alloc, objects, refs, chain, &expression)
 }
 
 /// What an expression names among all objects so far and the refs as last saved:
@@ -107,20 +95,17 @@ fn resolve<N: Naming>(
 /// can use the chain that this one leaves, also if objects were added in between.
 pub fn resolve_words<N: Naming>(
     alloc: Global,
-    pool: &Pool<N>,
-    table: &Table,
+    objects: &Objects<'_, N>,
     refs: &Refs,
     chain: &mut ChainCache,
     words: &[u8],
 ) -> Result<Name, Fault>
-    requires { IsBackedBy N.digest_of pool.now table.now.entries }
-    ensures found { let os = objects pool.now table.now.entries in AreObjects N.digest_of os
-        → AreChains os chain.old
-        → Gives result (resolved_or (resolved os refs.now words.now)) }
-    ensures chain { let os = objects pool.now table.now.entries in AreObjects N.digest_of os
-        → AreChains os chain.old → AreChains os chain.new }
+    ensures found { AreObjects N.digest_of objects.now → AreChains objects.now chain.old
+        → Gives result (resolved_or (resolved objects.now refs.now words.now)) }
+    ensures chain { AreObjects N.digest_of objects.now → AreChains objects.now chain.old
+        → AreChains objects.now chain.new }
 {
-    passed_on(resolve(alloc, pool, table, refs, chain, words))
+    passed_on(resolve(alloc, objects, refs, chain, words))
 }
 
 /// The commit that a branch is at.

@@ -5,8 +5,6 @@ ghost use Rattle.std.specs.Option.{option_map};
 ghost use Rattle.git_model.specs.GoodRepository.{AreObjects};
 ghost use Rattle.git_model.specs.StoredPath.{entry_at_path};
 ghost use Rattle.git_objects.specs.Parts.{entry_of};
-ghost use Rattle.tenant_tables.specs.Objects.{objects};
-ghost use Rattle.tenant_tables.specs.IsBackedBy.{IsBackedBy};
 ghost use Rattle.stream_parts.specs.Faults.{Gives};
 ghost use Rattle.stream_parts.specs.Printing.{Shows};
 ghost use Rattle.stream_parts.specs.Showing.{entry_line, entry_shown, tree_in};
@@ -14,16 +12,14 @@ ghost use Rattle.stream_parts.specs.Showing.{entry_line, entry_shown, tree_in};
 use crate::commit_ishes::peel_to;
 use crate::fault::Fault;
 use crate::marks::referred;
-use crate::objects::find_content;
 use crate::print::print_line;
-use content_pool::Pool;
 use git_objects::{FileMode, Kind, Memory, Name, Naming, TreeEntry, append_listing};
 use git_paths::Path;
 use revisions::entry_below;
 use std::alloc::Global;
 use stream_grammar::DataRef;
 use stream_marks::Marks;
-use tenant_tables::{Objects, Sight, Table};
+use tenant_tables::Objects;
 
 fn append_entry(
     path: &Path,
@@ -60,13 +56,11 @@ fn print_entry(
 }
 
 // The stored tree that an object is peeled to. The object must be there.
-fn tree_of<N: Naming>(alloc: Global, pool: &Pool<N>, table: &Table, id: Name) -> Result<Name, Fault>
-    requires { IsBackedBy N.digest_of pool.now table.now.entries }
-    ensures { let os = objects pool.now table.now.entries in AreObjects N.digest_of os
-        → Gives result (tree_in os id) }
+fn tree_of<N: Naming>(alloc: Global, objects: &Objects<'_, N>, id: Name) -> Result<Name, Fault>
+    ensures { AreObjects N.digest_of objects.now → Gives result (tree_in objects.now id) }
 {
-    match find_content(pool, table, id) {
-        Some(_) => peel_to(alloc, pool, table, Kind::Tree, id),
+    match objects.get(&id) {
+        Some(_) => peel_to(alloc, objects, Kind::Tree, id),
         None => Err(Fault::ObjectUnknown),
     }
 }
@@ -74,25 +68,22 @@ fn tree_of<N: Naming>(alloc: Global, pool: &Pool<N>, table: &Table, id: Name) ->
 // Prints what is at a path of a tree.
 fn print_below<N: Naming>(
     alloc: Global,
-    pool: &Pool<N>,
-    table: &Table,
+    objects: &Objects<'_, N>,
     tree: Name,
     path: &Path,
     out: &mut Vec<u8>,
 ) -> Result<(), Fault>
-    requires { IsBackedBy N.digest_of pool.now table.now.entries }
-    ensures shows { let os = objects pool.now table.now.entries in AreObjects N.digest_of os
-        → Shows (Ok (entry_line path.now (entry_at_path os tree path.now)))
+    ensures shows { AreObjects N.digest_of objects.now
+        → Shows (Ok (entry_line path.now (entry_at_path objects.now tree path.now)))
         out.old.items out.new.items result }
     ensures same { OnErr result (out.new.items ≡ out.old.items) }
 {
-    let objects = Objects::of(pool, table, Sight::All);
     let root = TreeEntry {
         mode: FileMode::Directory,
         name: b"",
         id: tree,
     };
-    match entry_below(alloc, &objects, path, &root) {
+    match entry_below(alloc, objects, path, &root) {
         Ok(entry) => Ok(print_entry(alloc, path, &entry, out)?),
         Err(_) => Err(Fault::Memory),
     }
@@ -107,20 +98,18 @@ fn print_below<N: Naming>(
 /// says what is printed if the objects are good.
 pub fn print_stored<N: Naming>(
     alloc: Global,
-    pool: &Pool<N>,
-    table: &Table,
+    objects: &Objects<'_, N>,
     marks: &Marks,
     root: DataRef,
     path: &Path,
     out: &mut Vec<u8>,
 ) -> Result<(), Fault>
-    requires { IsBackedBy N.digest_of pool.now table.now.entries }
-    ensures shows { let os = objects pool.now table.now.entries in AreObjects N.digest_of os
-        → Shows (entry_shown os marks.now.entries root path.now)
+    ensures shows { AreObjects N.digest_of objects.now
+        → Shows (entry_shown objects.now marks.now.entries root path.now)
         out.old.items out.new.items result }
     ensures same { OnErr result (out.new.items ≡ out.old.items) }
 {
     let id = referred(marks, root)?;
-    let tree = tree_of(alloc, pool, table, id)?;
-    print_below(alloc, pool, table, tree, path, out)
+    let tree = tree_of(alloc, objects, id)?;
+    print_below(alloc, objects, tree, path, out)
 }

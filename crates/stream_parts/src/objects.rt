@@ -5,7 +5,6 @@ ghost use Rattle.std.specs.Prelude.{◌≡◌, ◌≢◌};
 ghost use Rattle.git_model.specs.Content.{content_from};
 ghost use Rattle.git_model.specs.Repository.{object_named};
 ghost use Rattle.content_pool.specs.Pool.{HasHoldsLeft};
-ghost use Rattle.tenant_tables.specs.Objects.{objects};
 ghost use Rattle.tenant_tables.specs.IsBackedBy.{IsBackedBy};
 ghost use Rattle.stream_parts.specs.Printing.{Shows, shown_object};
 ghost use Rattle.stream_parts.specs.Storing.{storing_fault};
@@ -23,7 +22,7 @@ use content_pool::Pool;
 use git_objects::{Kind, Name, Naming};
 use stream_grammar::{DataRef, Mark};
 use stream_marks::Marks;
-use tenant_tables::Table;
+use tenant_tables::{Objects, Table};
 
 fn fault_of(fault: tenant_tables::Fault) -> Fault
     ensures { result ≡ storing_fault fault }
@@ -55,22 +54,6 @@ pub fn store<N: Naming>(
     }
 }
 
-/// The content of the object of this name; `None` where the table has no such object.
-pub fn find_content<'a, N: Naming>(
-    pool: &'a Pool<N>,
-    table: &Table,
-    id: Name,
-) -> Option<(Kind, &'a [u8])>
-    requires { IsBackedBy N.digest_of pool.now table.now.entries }
-    ensures { option_map (λ r. content_from r.0 r.1.now) result
-        ≡ object_named id (objects pool.now table.now.entries) }
-{
-    match table.find(&id) {
-        Some(slot) => Some(pool.get(slot)),
-        None => None,
-    }
-}
-
 // Prints an object, which must be a blob, or that there is none of this name.
 fn print_content(id: Name, content: Option<(Kind, &[u8])>, out: &mut Vec<u8>) -> Result<(), Fault>
     ensures { Shows (shown_object id (option_map (λ r. content_from r.0 r.1.now) content.entry))
@@ -85,16 +68,14 @@ fn print_content(id: Name, content: Option<(Kind, &[u8])>, out: &mut Vec<u8>) ->
 
 /// Prints the blob of this name, or that the table has no object of this name.
 pub fn print_object<N: Naming>(
-    pool: &Pool<N>,
-    table: &Table,
+    objects: &Objects<'_, N>,
     id: Name,
     out: &mut Vec<u8>,
 ) -> Result<(), Fault>
-    requires { IsBackedBy N.digest_of pool.now table.now.entries }
-    ensures { Shows (shown_object id (object_named id (objects pool.now table.now.entries)))
+    ensures { Shows (shown_object id (object_named id objects.now))
         out.old.items out.new.items result }
 {
-    print_content(id, find_content(pool, table, id), out)
+    print_content(id, objects.get(&id), out)
 }
 
 /// Prints the blob that a dataref stands for, or that the table has no such object:
@@ -103,19 +84,17 @@ pub fn print_object<N: Naming>(
 /// `Fault::MarkUnknown` (13) if the mark is not set, `Fault::WrongKind` (15) if the object is no
 /// blob, `Fault::Memory` (90) if an allocation fails. After a refusal `out` is unchanged.
 pub fn print_referred<N: Naming>(
-    pool: &Pool<N>,
-    table: &Table,
+    objects: &Objects<'_, N>,
     marks: &Marks,
     object: DataRef,
     out: &mut Vec<u8>,
 ) -> Result<(), Fault>
-    requires { IsBackedBy N.digest_of pool.now table.now.entries }
     ensures { Shows (and_then (referred_name marks.now.entries object)
-        (λ id. shown_object id (object_named id (objects pool.now table.now.entries))))
+        (λ id. shown_object id (object_named id objects.now)))
         out.old.items out.new.items result }
 {
     let id = marks::referred(marks, object)?;
-    print_object(pool, table, id, out)
+    print_object(objects, id, out)
 }
 
 /// Prints the name of the object that a mark stands for: git-fast-import(1), "get-mark".

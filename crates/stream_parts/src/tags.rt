@@ -7,7 +7,6 @@ ghost use Rattle.indexmap.specs.IndexMap.{spare};
 ghost use Rattle.git_model.specs.Content.{content_from};
 ghost use Rattle.git_model.specs.References.{kind_named};
 ghost use Rattle.content_pool.specs.Pool.{HasHoldsLeft};
-ghost use Rattle.tenant_tables.specs.Objects.{objects};
 ghost use Rattle.tenant_tables.specs.IsBackedBy.{IsBackedBy};
 ghost use Rattle.stream_parts.specs.Tags.{room_for_tag, tag_content, tagged_kind};
 ghost use Rattle.tenant_tables.specs.Lent.{Keeps};
@@ -15,13 +14,13 @@ ghost use Rattle.stream_parts.specs.Stored.{Stores};
 
 use crate::fault::Fault;
 use crate::headers::TagHeader;
-use crate::objects::{find_content, store};
+use crate::objects::store;
 use content_pool::Pool;
 use git_objects::{Kind, Name, Naming, TagParts, write_tag};
 use std::alloc::Global;
 use stream_grammar::Ident;
 use tenant_refs::RefName;
-use tenant_tables::Table;
+use tenant_tables::{Objects, Table};
 
 /// How many tags may wait for a checkpoint.
 pub const TAGS_LIMIT: usize = 65_536;
@@ -30,11 +29,10 @@ pub const TAGS_LIMIT: usize = 65_536;
 const TAGS: &[u8] = b"refs/tags/";
 
 /// The kind of the tagged object: a commit, a blob or a tag.
-pub fn tagged_kind<N: Naming>(pool: &Pool<N>, table: &Table, target: Name) -> Result<Kind, Fault>
-    requires { IsBackedBy N.digest_of pool.now table.now.entries }
-    ensures { result ≡ tagged_kind (kind_named target (objects pool.now table.now.entries)) }
+pub fn tagged_kind<N: Naming>(objects: &Objects<'_, N>, target: Name) -> Result<Kind, Fault>
+    ensures { result ≡ tagged_kind (kind_named target objects.now) }
 {
-    match find_content(pool, table, target) {
+    match objects.get(&target) {
         None => Err(Fault::UnknownRevision),
         Some((Kind::Tree, _)) => Err(Fault::WrongKind),
         Some((kind, _)) => Ok(kind),

@@ -1,5 +1,5 @@
 -- Whose contents are in a pool file.
-use Rattle.std.proofs.Common.{◌≡◌, ℕ, List, map, sym, ap, subst}
+use Rattle.std.proofs.Common.{ℕ, List, map, sym, subst}
 use Rattle.std.specs.Prelude.{Contains, filter}
 use Rattle.git_model.specs.Content.{Content}
 use Rattle.git_model.specs.Repository.{Object}

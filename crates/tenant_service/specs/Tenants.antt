@@ -52,10 +52,10 @@ IsSettled (phase.Running opened stream) table = Unit {0}
 IsSettled (phase.Dead opened code) table = table.committed ≡ length table.entries
 
 -- If a stream runs, the files that it holds of its commits are among these objects.
-abbrev pub HoldsIn : List Object → OpenStream → Type 0
-HoldsIn objects phase.Closed = Unit {0}
-HoldsIn objects (phase.Running opened stream) = HoldsFiles objects stream.session.state
-HoldsIn objects (phase.Dead opened code) = Unit {0}
+abbrev pub HoldsIn : (List ℕ → List ℕ) → List Object → OpenStream → Type 0
+HoldsIn digest objects phase.Closed = Unit {0}
+HoldsIn digest objects (phase.Running opened stream) = HoldsFiles digest objects stream.session.state
+HoldsIn digest objects (phase.Dead opened code) = Unit {0}
 
 -- A tenant's table stands in the pool. What its stream was opened on is committed. The files that
 -- its stream holds are among its objects, and the first parents that queries met are among the
@@ -64,7 +64,7 @@ pub record Stands (digest : List ℕ → List ℕ) (pool : Cells) (tenant : Tena
   pub entries : IsBackedBy digest pool tenant.table.entries
   pub settled : IsSettled tenant.phase tenant.table
   pub opened : HasOpened tenant.phase tenant.table
-  pub files : HoldsIn (objects pool tenant.table.entries) tenant.phase
+  pub files : HoldsIn digest (objects pool tenant.table.entries) tenant.phase
   pub chain : IsFirstParentChain (objects pool (in_sight Committed tenant.table)) tenant.chain
 
 -- All tenants by their names.

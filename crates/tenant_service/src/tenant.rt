@@ -7,7 +7,7 @@ ghost use Rattle.std.specs.Prelude.{◌≡◌, ℕ, List, length, [], is_some};
 ghost use Rattle.tenant_tables.specs.IsBackedBy.{IsBackedBy, PreservesOthers};
 ghost use Rattle.content_pool.specs.Pool.{Cells};
 ghost use Rattle.import_session.specs.Session.{repository_in};
-ghost use Rattle.tenant_service.specs.Alone.{Open, Feed, End, Ask, Restart};
+ghost use Rattle.tenant_service.specs.Alone.{Open, Feed, End, Ask};
 ghost use Rattle.tenant_stream.specs.Carrying.{HasAmpleHoldsLeft};
 ghost use Rattle.tenant_service.specs.Headline.{stop_told};
 ghost use Rattle.tenant_service.specs.TenantState.{Idle, empty_repository};

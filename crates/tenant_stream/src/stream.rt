@@ -35,10 +35,10 @@ fn carry<N: Naming>(
 ) -> Result<(), StreamError>
     requires stands { IsBackedBy N.digest_of pool.old table.old.entries }
     requires room { HasAmpleHoldsLeft pool.old }
-    requires held { FilesStand session.old.state pool.old table.old }
+    requires held { FilesStand N.digest_of session.old.state pool.old table.old }
     requires running { session.old.is_done ≡ false }
     ensures keeps { Keeps N.digest_of pool.old table.old pool.new table.new }
-    ensures held { OnOk result (FilesStand session.new.state pool.new table.new) }
+    ensures held { OnOk result (FilesStand N.digest_of session.new.state pool.new table.new) }
     ensures carries { let before = held_with (record { session = session.old; tail = lexer.old.tail })
         pool.old table.old refs.old out.old.items in
         IsSound N.digest_of before.running.workspace → Carries N.digest_of before result
@@ -85,7 +85,7 @@ fn end<N: Naming>(
 ) -> Result<(), StreamError>
     requires stands { IsBackedBy N.digest_of pool.old table.old.entries }
     requires room { HasAmpleHoldsLeft pool.old }
-    requires held { FilesStand session.old.state pool.old table.old }
+    requires held { FilesStand N.digest_of session.old.state pool.old table.old }
     ensures keeps { Keeps N.digest_of pool.old table.old pool.new table.new }
     ensures ended { let before = held_with (record { session = session.old; tail = lexer.now.tail })
         pool.old table.old refs.old out.old.items in
@@ -159,9 +159,9 @@ impl Stream {
     ) -> Result<(), StreamError>
         requires stands { IsBackedBy N.digest_of pool.old table.old.entries }
         requires room { HasAmpleHoldsLeft pool.old }
-        requires held { FilesStand self.old.session.state pool.old table.old }
+        requires held { FilesStand N.digest_of self.old.session.state pool.old table.old }
         ensures keeps { Keeps N.digest_of pool.old table.old pool.new table.new }
-        ensures held { OnOk result (FilesStand self.new.session.state pool.new table.new) }
+        ensures held { OnOk result (FilesStand N.digest_of self.new.session.state pool.new table.new) }
         ensures feeds { let before = held_with self.old pool.old table.old refs.old out.old.items in
             IsSound N.digest_of before.running.workspace → Feeds N.digest_of before piece.now result
             (held_with self.new pool.new table.new refs.new out.new.items) }
@@ -194,7 +194,7 @@ impl Stream {
     ) -> Result<(), StreamError>
         requires stands { IsBackedBy N.digest_of pool.old table.old.entries }
         requires room { HasAmpleHoldsLeft pool.old }
-        requires held { FilesStand self.session.state pool.old table.old }
+        requires held { FilesStand N.digest_of self.session.state pool.old table.old }
         ensures keeps { Keeps N.digest_of pool.old table.old pool.new table.new }
         ensures ended { let before = held_with self pool.old table.old refs.old out.old.items in
             IsSound N.digest_of before.running.workspace → EndsAs N.digest_of before result

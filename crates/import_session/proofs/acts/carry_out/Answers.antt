@@ -39,7 +39,7 @@ returns-in-Change-clause-committed g c =
 pub returns-in-Ref-clause-done : goal.returns-in-Ref-clause-done
 unfolding after_act
 returns-in-Ref-clause-done g c sound =
-    rw c.in-Ref.is (c.carry_out_ref.ensures.done c.args.out.now.items sound.objects)
+    rw c.in-Ref.is ((rw c.of.ensures at c.carry_out_ref.ensures.done) c.args.out.now.items c.args.table.now.committed sound.objects)
 
 pub returns-in-Reply-clause-done : goal.returns-in-Reply-clause-done
 unfolding after_act
@@ -63,6 +63,6 @@ returns-in-Control-clause-committed g c =
 
 pub returns-in-Control-clause-held : goal.returns-in-Control-clause-held
 returns-in-Control-clause-held g c =
-    still_held c.carry_out_control.result (objects c.args.pool.now c.carry_out_control.new.table.entries)
+    still_held c.carry_out_control.result g.N.Naming.digest_of (objects c.args.pool.now c.carry_out_control.new.table.entries)
     (state_shown c.args.state.now) (state_shown c.carry_out_control.new.state)
     c.carry_out_control.ensures.files (rw c.carry_out_control.ensures.entries c.requires.held)

@@ -13,7 +13,7 @@ returns-in-ModifyInline-clause-done g c refs out good =
 
 pub returns-in-ModifyInline-clause-held : goal.returns-in-ModifyInline-clause-held
 returns-in-ModifyInline-clause-held g c =
-    still_held c.await_contents.result (objects c.args.pool.now c.args.table.now.entries)
+    still_held c.await_contents.result g.N.Naming.digest_of (objects c.args.pool.now c.args.table.now.entries)
     (state_shown c.args.state.now) (state_shown c.await_contents.new.state) c.await_contents.ensures.files c.requires.held
 
 pub returns-in-InlineData-clause-done : goal.returns-in-InlineData-clause-done
@@ -35,4 +35,4 @@ returns-in-DeleteAll-clause-done g c refs out good =
 
 pub returns-in-DeleteAll-clause-held : goal.returns-in-DeleteAll-clause-held
 returns-in-DeleteAll-clause-held g c =
-    c.delete_all.ensures.held (objects c.args.pool.now c.args.table.now.entries) c.requires.held
+    c.delete_all.ensures.held g.N.Naming.digest_of (objects c.args.pool.now c.args.table.now.entries) c.requires.held

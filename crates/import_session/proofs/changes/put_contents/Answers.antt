@@ -14,10 +14,10 @@ returns-clause-committed g c =
 pub returns-clause-held : goal.returns-clause-held
 returns-clause-held g c =
     rw (c.passed_on-put.ensures, c.keep_open.ensures)
-    (open_again (objects c.put_contents.new.pool c.put_contents.new.table.entries)
+    (open_again g.N.Naming.digest_of (objects c.put_contents.new.pool c.put_contents.new.table.entries)
     (state_shown c.args.state.now) (commit_held c.put_contents.new.self) c.put_contents.result
     c.put_contents.ensures.held
     (kept_stand c.args.pool.now c.args.table.now c.put_contents.new.pool c.put_contents.new.table
     c.put_contents.ensures.adds c.args.state.now.kept c.requires.held.kept)
-    (chain_stands c.args.pool.now c.args.table.now c.put_contents.new.pool c.put_contents.new.table
+    (chain_stands g.N.Naming.digest_of c.args.pool.now c.args.table.now c.put_contents.new.pool c.put_contents.new.table
     c.put_contents.ensures.adds c.args.state.now.chain c.requires.held.chain))

@@ -23,15 +23,15 @@ returns-clause-committed g c =
 
 pub returns-in-Err-clause-chain : goal.returns-in-Err-clause-chain
 returns-in-Err-clause-chain g c =
-    chain_stands c.args.pool.now c.args.table.now c.close.new.pool c.close.new.table c.close.ensures.adds
+    chain_stands g.N.Naming.digest_of c.args.pool.now c.args.table.now c.close.new.pool c.close.new.table c.close.ensures.adds
     c.args.state.now.chain
 
 pub returns-in_err-place-clause-chain : goal.returns-in_err-place-clause-chain
 returns-in_err-place-clause-chain g c =
-    chain_stands c.args.pool.now c.args.table.now c.close.new.pool c.close.new.table c.close.ensures.adds
+    chain_stands g.N.Naming.digest_of c.args.pool.now c.args.table.now c.close.new.pool c.close.new.table c.close.ensures.adds
     c.args.state.now.chain
 
 pub returns-clause-chain : goal.returns-clause-chain
 returns-clause-chain g c =
-    chain_stands c.args.pool.now c.args.table.now c.close.new.pool c.close.new.table c.close.ensures.adds
+    chain_stands g.N.Naming.digest_of c.args.pool.now c.args.table.now c.close.new.pool c.close.new.table c.close.ensures.adds
     c.args.state.now.chain

@@ -9,7 +9,7 @@ returns-in-Begin-clause-done g c out sound =
 
 pub returns-in-Begin-clause-held : goal.returns-in-Begin-clause-held
 returns-in-Begin-clause-held g c =
-    still_held c.begin_commit.result (objects c.args.pool.now c.args.table.now.entries)
+    still_held c.begin_commit.result g.N.Naming.digest_of (objects c.args.pool.now c.args.table.now.entries)
     (state_shown c.args.state.now) (state_shown c.begin_commit.new.state) c.begin_commit.ensures.files c.requires.held
 
 pub returns-in-Author-clause-done : goal.returns-in-Author-clause-done
@@ -18,7 +18,7 @@ returns-in-Author-clause-done g c out sound =
 
 pub returns-in-Author-clause-held : goal.returns-in-Author-clause-held
 returns-in-Author-clause-held g c =
-    still_held c.say_author.result (objects c.args.pool.now c.args.table.now.entries)
+    still_held c.say_author.result g.N.Naming.digest_of (objects c.args.pool.now c.args.table.now.entries)
     (state_shown c.args.state.now) (state_shown c.say_author.new.state) c.say_author.ensures.files c.requires.held
 
 pub returns-in-Committer-clause-done : goal.returns-in-Committer-clause-done
@@ -27,7 +27,7 @@ returns-in-Committer-clause-done g c out sound =
 
 pub returns-in-Committer-clause-held : goal.returns-in-Committer-clause-held
 returns-in-Committer-clause-held g c =
-    still_held c.say_committer.result (objects c.args.pool.now c.args.table.now.entries)
+    still_held c.say_committer.result g.N.Naming.digest_of (objects c.args.pool.now c.args.table.now.entries)
     (state_shown c.args.state.now) (state_shown c.say_committer.new.state) c.say_committer.ensures.files c.requires.held
 
 pub returns-in-Encoding-clause-done : goal.returns-in-Encoding-clause-done
@@ -36,7 +36,7 @@ returns-in-Encoding-clause-done g c out sound =
 
 pub returns-in-Encoding-clause-held : goal.returns-in-Encoding-clause-held
 returns-in-Encoding-clause-held g c =
-    still_held c.say_encoding.result (objects c.args.pool.now c.args.table.now.entries)
+    still_held c.say_encoding.result g.N.Naming.digest_of (objects c.args.pool.now c.args.table.now.entries)
     (state_shown c.args.state.now) (state_shown c.say_encoding.new.state) c.say_encoding.ensures.files c.requires.held
 
 pub returns-in-Message-clause-done : goal.returns-in-Message-clause-done
@@ -48,4 +48,4 @@ returns-in-From-clause-done g c out sound =
 
 pub returns-in-Merge-clause-done : goal.returns-in-Merge-clause-done
 returns-in-Merge-clause-done g c out sound =
-    rw c.in-Merge.is (c.merge_open.ensures.done out sound.objects)
+    rw c.in-Merge.is ((rw c.of.ensures at c.merge_open.ensures.done) out c.args.table.now.committed sound.objects)

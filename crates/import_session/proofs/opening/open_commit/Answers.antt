@@ -46,10 +46,10 @@ returns-clause-done g c out sound =
 
 pub returns-clause-held : goal.returns-clause-held
 returns-clause-held g c =
-    subst (HoldsFiles (objects c.args.pool.now c.args.table.now.entries)) (sym c.keep_open.ensures)
+    subst (HoldsFiles g.N.Naming.digest_of (objects c.args.pool.now c.args.table.now.entries)) (sym c.keep_open.ensures)
     (record {
       command = c.in_ok-commit.ensures.held;
       kept = c.in_ok-commit.ensures.kept;
-      chain = subst (ChainStands (objects c.args.pool.now c.args.table.now.entries))
+      chain = subst (ChainStands g.N.Naming.digest_of (objects c.args.pool.now c.args.table.now.entries))
           (sym (ap (λ (state : StreamState). state.chain) c.in_ok-commit.ensures.state)) c.requires.held.chain;
     })

@@ -10,5 +10,5 @@ abbrev pub invariant-loop-text : goal.invariant-loop-text
 invariant-loop-text g l = record {
   stands : IsBackedBy g.N.Naming.digest_of l.pool l.table.entries;
   alone : (s : ℕ) → holds l.pool s ≡ held l.table.entries s;
-  files : FilesStand l.session.state l.pool l.table;
+  files : FilesStand g.N.Naming.digest_of l.session.state l.pool l.table;
 }

@@ -1,20 +1,16 @@
-use Rattle.std.proofs.Common.{◌≡◌, ◌++◌, take}
+use Rattle.std.proofs.Common.{◌≡◌, ◌++◌, ℕ, take}
 use Rattle.git_model.specs.GoodRepository.{AreObjects}
-use Rattle.content_pool.specs.Pool.{Cells}
 use Rattle.tenant_refs.specs.Changes.{with_changes}
-use Rattle.tenant_tables.specs.Objects.{objects}
-use Rattle.tenant_tables.specs.View.{View}
 use Rattle.stream_commands.specs.Checkpoints.{by_branches, kept_lines}
-use Rattle.stream_commands.specs.State.{state_shown, workspace_in}
+use Rattle.stream_commands.specs.State.{state_shown, workspace_over}
 use Rattle.stream_commands.proofs.checkpoint.add_branches.Given as goal
 
 -- those before the place were added
 abbrev pub invariant-loop-place : goal.invariant-loop-place
 invariant-loop-place g l = record {
   same : l.ancestry ≡ l.fn.ancestry;
-  saved : AreObjects g.N.Naming.digest_of l.fn.ancestry → (pool : Cells) (table : View)
-      → l.fn.ancestry ≡ objects pool table.entries
-      → let workspace = workspace_in (state_shown l.state) pool table l.refs in
+  saved : (committed : ℕ) → AreObjects g.N.Naming.digest_of l.fn.ancestry
+      → let workspace = workspace_over (state_shown l.state) l.fn.ancestry committed l.refs in
       (with_changes l.refs l.saving.changes.items ≡ by_branches workspace
       (with_changes l.refs l.fn.saving.changes.items) (take l.place l.state.branches))
       × (l.saving.kept.items

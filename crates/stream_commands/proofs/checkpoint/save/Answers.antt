@@ -1,4 +1,4 @@
-use Rattle.std.proofs.Common.{List, ℕ, Option, ap, ◌∙◌, ◌++◌}
+use Rattle.std.proofs.Common.{List, ℕ, Option, ap, ◌∙◌, ◌++◌, rules}
 use Rattle.stream_parts.specs.Checkpoints.{by_head}
 use Rattle.stream_commands.specs.State.{state_shown}
 use Rattle.stream_commands.proofs.CheckpointLemmas.{well_saved}
@@ -6,7 +6,7 @@ use Rattle.stream_commands.proofs.checkpoint.save.Goals as goal
 
 pub returns-clause-saved : goal.returns-clause-saved
 returns-clause-saved g c good =
-    let saving = c.in_ok-saving.ensures.saved good in
+    let saving = (rw c.of.ensures at c.in_ok-saving.ensures.saved) c.args.table.now.committed good in
     let done = c.in_ok-carry_out.ensures.done in
     well_saved (state_shown c.args.state.now) c.take.new.self c.clear.new.self.items c.args.pool.now
     c.args.table.now c.commit.new.self c.args.refs.now c.carry_out.new.refs c.save_head.new.refs
@@ -16,3 +16,8 @@ returns-clause-saved g c good =
     c.take.ensures.value)
     c.take.ensures.after c.clear.ensures.items c.commit.ensures
     (done.2 ∙ ap (λ (kept : List ℕ). c.args.out.now.items ++ kept) saving.1)
+
+pub returns-in_err-carry_out-clause-saved : goal.returns-in_err-carry_out-clause-saved
+returns-in_err-carry_out-clause-saved g c good =
+    let saving = (rw c.of.ensures at c.in_ok-saving.ensures.saved) c.args.table.now.committed good in
+    search rules

@@ -11,23 +11,23 @@ returns-in-Blob-clause-done g c out good =
 pub returns-in-Blob-clause-held : goal.returns-in-Blob-clause-held
 returns-in-Blob-clause-held g c =
     let state = state_shown c.args.state.now in
-    still_held c.store_marked.result
+    still_held c.store_marked.result g.N.Naming.digest_of
     (objects c.store_marked.new.pool c.store_marked.new.table.entries) state _
-    (λ os holds. record { command = holds.command; kept = holds.kept; chain = holds.chain }) (c.store_marked.ensures.held state c.requires.held)
+    (λ digest os holds. record { command = holds.command; kept = holds.kept; chain = holds.chain }) (c.store_marked.ensures.held state c.requires.held)
 
 pub returns-in-BeginTag-clause-held : goal.returns-in-BeginTag-clause-held
 returns-in-BeginTag-clause-held g c =
-    still_held c.begin_tag.result (objects c.args.pool.now c.args.table.now.entries)
+    still_held c.begin_tag.result g.N.Naming.digest_of (objects c.args.pool.now c.args.table.now.entries)
     (state_shown c.args.state.now) (state_shown c.begin_tag.new.state) c.begin_tag.ensures.files c.requires.held
 
 pub returns-in-TagTarget-clause-held : goal.returns-in-TagTarget-clause-held
 returns-in-TagTarget-clause-held g c =
-    still_held c.say_target.result (objects c.args.pool.now c.args.table.now.entries)
+    still_held c.say_target.result g.N.Naming.digest_of (objects c.args.pool.now c.args.table.now.entries)
     (state_shown c.args.state.now) (state_shown c.say_target.new.state) c.say_target.ensures.files c.requires.held
 
 pub returns-in-Tagger-clause-held : goal.returns-in-Tagger-clause-held
 returns-in-Tagger-clause-held g c =
-    still_held c.say_tagger.result (objects c.args.pool.now c.args.table.now.entries)
+    still_held c.say_tagger.result g.N.Naming.digest_of (objects c.args.pool.now c.args.table.now.entries)
     (state_shown c.args.state.now) (state_shown c.say_tagger.new.state) c.say_tagger.ensures.files c.requires.held
 
 pub returns-in-BeginTag-clause-done : goal.returns-in-BeginTag-clause-done

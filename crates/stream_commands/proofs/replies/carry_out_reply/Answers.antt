@@ -24,7 +24,7 @@ returns-in-CatBlob-clause-done g c refs good =
     c.in-CatBlob.object)
     (λ id. shown_object id (object_named id (objects c.args.pool.now c.args.table.now.entries)))
     _ c.args.out.now.items c.print_referred.new.out.items c.print_referred.result
-    c.print_referred.ensures)
+    (rw c.of-objects.ensures at c.print_referred.ensures))
 
 pub returns-in-Ls-clause-done : goal.returns-in-Ls-clause-done
 unfolding replied
@@ -32,7 +32,7 @@ returns-in-Ls-clause-done g c refs good =
     rw c.in-Ls.is (line_carried (entry_shown (objects c.args.pool.now c.args.table.now.entries)
     c.args.state.now.marks.entries c.in-Ls.root c.in-Ls.path)
     _ c.args.out.now.items c.print_stored.new.out.items c.print_stored.result
-    (c.print_stored.ensures.shows good))
+    ((rw c.of-objects-in-Ls.ensures at c.print_stored.ensures.shows) good))
 
 pub returns-in-LsInCommit-clause-done : goal.returns-in-LsInCommit-clause-done
 returns-in-LsInCommit-clause-done g c refs good = rw c.in-LsInCommit.is (c.show_entry.ensures.done refs)

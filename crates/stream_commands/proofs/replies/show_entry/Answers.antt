@@ -34,6 +34,6 @@ returns-clause-held g c = record {
   command = c.show_entry.ensures.held;
   kept = kept_stand c.args.pool.now c.args.table.now c.show_entry.new.pool c.show_entry.new.table
       c.show_entry.ensures.adds c.args.state.now.kept c.requires.held.kept;
-  chain = chain_stands c.args.pool.now c.args.table.now c.show_entry.new.pool c.show_entry.new.table
+  chain = chain_stands g.N.Naming.digest_of c.args.pool.now c.args.table.now c.show_entry.new.pool c.show_entry.new.table
       c.show_entry.ensures.adds c.args.state.now.chain c.requires.held.chain;
 }

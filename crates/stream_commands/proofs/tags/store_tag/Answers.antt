@@ -20,7 +20,7 @@ returns-in-Err-clause-done g c out good =
     rw (sym c.take.ensures.taken, c.in-Tag.is)
     (tag_refused g.N.Naming.digest_of c.args.mark c.args.message.now c.in-Tag.header w
     (workspace_in (state_shown c.tagged.new.state) c.args.pool.now c.args.table.now c.args.refs.now) out
-    c.in-Err.fault (c.in-Err.ensures.tagged good))
+    c.in-Err.fault ((rw c.of-objects.ensures at c.in-Err.ensures.tagged) c.args.table.now.committed good))
 
 pub returns-in-Err-stored-clause-done : goal.returns-in-Err-stored-clause-done
 unfolding object_stored
@@ -31,7 +31,7 @@ returns-in-Err-stored-clause-done g c out good =
     (tag_not_stored g.N.Naming.digest_of c.args.mark c.args.message.now c.in-Tag.header w
     (workspace_in (state_shown c.tagged.new.state) c.store_written-stored.new.pool
     c.store_written-stored.new.table c.args.refs.now) out c.in-Err-stored.fault c.in-Ok.tagged.0 c.in-Ok.tagged.1
-    (c.in-Ok.ensures.tagged good) c.in-Err-stored.ensures.stores.refused)
+    ((rw c.of-objects.ensures at c.in-Ok.ensures.tagged) c.args.table.now.committed good) c.in-Err-stored.ensures.stores.refused)
 
 pub returns-clause-done : goal.returns-clause-done
 unfolding object_stored
@@ -54,7 +54,7 @@ returns-clause-done g c out good =
     let tags = rw pushed at c.push.ensures.items in
     rw (sym c.take.ensures.taken, c.in-Tag.is)
     (tag_kept digest c.args.mark c.args.message.now header w _ out target kind
-    (objects pool table.entries) (c.in-Ok.ensures.tagged good) stored.objects
+    (objects pool table.entries) ((rw c.of-objects.ensures at c.in-Ok.ensures.tagged) c.args.table.now.committed good) stored.objects
     (tag_left now (state_shown c.tagged.new.state) c.args.mark header.ref_name c.in-Ok-stored.id
     (name_by digest tag) c.set.new.marks.entries c.push.new.self.items c.args.pool.now
     c.args.table.now pool table c.args.refs.now left c.set.ensures tags
@@ -72,6 +72,6 @@ returns-clause-held g c =
     let grown = files_grown g.N.Naming.digest_of tag
     (objects c.args.pool.now c.args.table.now.entries) more c.in-Ok-stored.ensures.stores.objects
     (state_with now Nothing)
-    (record { command = tt; kept = c.requires.held.kept; chain = c.tagged.ensures.chain }) in
-    let stands = subst (HoldsFiles more) (sym left) grown in
+    (record { command = tt; kept = c.requires.held.kept; chain = rw c.of-objects.ensures at c.tagged.ensures.chain }) in
+    let stands = subst (HoldsFiles g.N.Naming.digest_of more) (sym left) grown in
     record { command = stands.command; kept = stands.kept; chain = stands.chain }

@@ -15,7 +15,7 @@ invariant-items g l =
     l.pool l.table l.refs l.out.items in
     record {
       keeps : Keeps g.N.Naming.digest_of l.fn.pool l.fn.table l.pool l.table;
-      held : FilesStand l.session.state l.pool l.table;
+      held : FilesStand g.N.Naming.digest_of l.session.state l.pool l.table;
       items : List Item;
       reads : ReadsOn before.tail items after.tail;
       counted : length items ≡ l.count;

@@ -8,8 +8,8 @@ use Rattle.import_session.proofs.session.Session.finish.Goals as goal
 
 pub save_at_end-requires-clause-held : goal.save_at_end-requires-clause-held
 save_at_end-requires-clause-held g c =
-    subst (λ (k : SessionView). FilesStand k.state c.args.pool.now c.args.table.now) (sym c.self.view_is)
-    c.requires.held
+    subst (λ (k : SessionView). FilesStand g.N.Naming.digest_of k.state c.args.pool.now c.args.table.now)
+    (sym c.self.view_is) c.requires.held
 
 pub returns-clause-ended : goal.returns-clause-ended
 unfolding session_end

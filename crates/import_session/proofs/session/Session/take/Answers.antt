@@ -12,8 +12,8 @@ use Rattle.import_session.proofs.session.Session.take.Goals as goal
 
 pub carry_out_done-carried-requires-clause-held : goal.carry_out_done-carried-requires-clause-held
 carry_out_done-carried-requires-clause-held g c =
-    subst (λ (k : SessionView). FilesStand k.state c.args.pool.now c.args.table.now) (sym c.self.view_is)
-    c.requires.held
+    subst (λ (k : SessionView). FilesStand g.N.Naming.digest_of k.state c.args.pool.now c.args.table.now)
+    (sym c.self.view_is) c.requires.held
 
 pub returns-then-is_done-clause-taken : goal.returns-then-is_done-clause-taken
 returns-then-is_done-clause-taken g c sound =
