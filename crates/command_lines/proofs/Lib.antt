@@ -1,6 +1,5 @@
 mod FilledRows
 mod FilledWalk
 mod NamedLines
-mod SaidLines
 mod UsageSteps
 mod WrittenLines

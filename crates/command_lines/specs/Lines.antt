@@ -45,55 +45,44 @@ said (line.Pack tenant all pool) = pack tenant.now all pool.now
 abbrev pub given : List Row → Text → Option Text
 given rows id = first_of id rows
 
-abbrev pub import_in : List Row → Text → Option Said
-import_in rows pool = option_map (λ tenant. import tenant pool) (given rows (codes "tenant"))
+-- The values under these two names, if both are there.
+abbrev pub two_given : List Row → Text → Text → Option (Text × Text)
+two_given rows first second =
+    option_and_then (λ x. option_map (λ y. (x, y)) (given rows second)) (given rows first)
 
-abbrev pub ask_in : List Row → Text → Option Said
-ask_in rows pool = option_and_then (λ tenant.
-    option_map (λ query. ask tenant query pool) (given rows (codes "query")))
-    (given rows (codes "tenant"))
+-- A line of the value under this name and the pool file.
+abbrev pub line_of : (Text → Text → Said) → Text → List Row → Text → Option Said
+line_of line id rows pool = option_map (λ x. line x pool) (given rows id)
 
-abbrev pub copy_in : List Row → Text → Option Said
-copy_in rows pool = option_and_then (λ from.
-    option_map (λ to. copy from to pool) (given rows (codes "to"))) (given rows (codes "from"))
-
-abbrev pub remove_in : List Row → Text → Option Said
-remove_in rows pool = option_map (λ tenant. remove tenant pool) (given rows (codes "tenant"))
-
-abbrev pub compact_in : List Row → Text → Option Said
-compact_in rows pool = option_map (λ tenant. compact tenant pool) (given rows (codes "tenant"))
-
-abbrev pub extract_in : List Row → Text → Option Said
-extract_in rows pool = option_and_then (λ tenant.
-    option_map (λ file. extract tenant file pool) (given rows (codes "to")))
-    (given rows (codes "tenant"))
-
-abbrev pub merge_in : List Row → Text → Option Said
-merge_in rows pool = option_map (λ file. merge file pool) (given rows (codes "file"))
+-- A line of the values under these two names and the pool file.
+abbrev pub line_of_two : (Text → Text → Text → Said) → Text → Text → List Row → Text → Option Said
+line_of_two line first second rows pool =
+    option_and_then (λ x. line_of (line x) second rows pool) (given rows first)
 
 -- Whether the flag of this name was given: `clap` gives it a value, `true` or `false`.
 abbrev pub is_set : List Row → Text → Bool
 is_set rows id = option_map_or (λ text. bytes_eq text (codes "true")) (given rows id) false
 
-abbrev pub pack_in : List Row → Text → Option Said
-pack_in rows pool =
-    option_map (λ tenant. pack tenant (is_set rows (codes "all")) pool) (given rows (codes "tenant"))
-
 -- What a subcommand of this name with these matches says beside the pool file.
 abbrev pub said_with : Text → List Row → Text → Option Said
 said_with name rows pool =
     if bytes_eq name (codes "serve") then Some (serve pool)
-    else (if bytes_eq name (codes "import") then import_in rows pool
-    else (if bytes_eq name (codes "ask") then ask_in rows pool
+    else (if bytes_eq name (codes "import") then line_of import (codes "tenant") rows pool
+    else (if bytes_eq name (codes "ask")
+    then line_of_two ask (codes "tenant") (codes "query") rows pool
     else (if bytes_eq name (codes "check") then Some (check pool)
-    else (if bytes_eq name (codes "copy") then copy_in rows pool
-    else (if bytes_eq name (codes "remove") then remove_in rows pool
-    else (if bytes_eq name (codes "compact") then compact_in rows pool
+    else (if bytes_eq name (codes "copy")
+    then line_of_two copy (codes "from") (codes "to") rows pool
+    else (if bytes_eq name (codes "remove") then line_of remove (codes "tenant") rows pool
+    else (if bytes_eq name (codes "compact") then line_of compact (codes "tenant") rows pool
     else (if bytes_eq name (codes "sizes") then Some (sizes pool)
-    else (if bytes_eq name (codes "extract") then extract_in rows pool
-    else (if bytes_eq name (codes "merge") then merge_in rows pool
+    else (if bytes_eq name (codes "extract")
+    then line_of_two extract (codes "tenant") (codes "to") rows pool
+    else (if bytes_eq name (codes "merge") then line_of merge (codes "file") rows pool
     else (if bytes_eq name (codes "host") then Some (host pool)
-    else (if bytes_eq name (codes "pack") then pack_in rows pool else None)))))))))))
+    else (if bytes_eq name (codes "pack")
+    then line_of (λ tenant. pack tenant (is_set rows (codes "all"))) (codes "tenant") rows pool
+    else None)))))))))))
 
 -- What a subcommand with its matches says.
 abbrev pub said_by : Text × List Row → Option Said

@@ -1,5 +1,6 @@
 -- The subcommands of `gitpool` and what each takes: gitcli(7), as `clap` is told it.
-use Rattle.std.specs.Prelude.{◌≡◌, List, [], ◌∷◌, ◌++◌, Some, codes, true, false}
+use Rattle.std.specs.Prelude.{◌≡◌, List, [], ◌∷◌, ◌++◌, Some, Result, IfOk, codes, true, false}
+use Rattle.std.specs.declared.alloc.AllocError.{AllocError}
 use Rattle.clap.specs.Words.{App, Rule, Shape, Text, app_of, new_rule}
 use Rattle.clap.specs.Simple.{new_shape}
 use Rattle.clap.specs.declared.builder.action.ArgAction.TheVariants.{SetTrue}
@@ -34,13 +35,21 @@ all_flag = flag_of (codes "all")
 abbrev pub subcommand : Text → List Rule → Shape
 subcommand name rules = record (new_shape name) { rules = rules }
 
+-- `NAME --pool FILE`
+abbrev pub pool_usage : Text → Shape
+pool_usage name = subcommand name (pool_option ∷ [])
+
+-- `NAME TENANT --pool FILE`
+abbrev pub tenant_usage : Text → Shape
+tenant_usage name = subcommand name (argument (codes "tenant") ∷ pool_option ∷ [])
+
 -- `serve --pool FILE`
 abbrev pub serve_usage : Shape
-serve_usage = subcommand (codes "serve") (pool_option ∷ [])
+serve_usage = pool_usage (codes "serve")
 
 -- `import TENANT --pool FILE`
 abbrev pub import_usage : Shape
-import_usage = subcommand (codes "import") (argument (codes "tenant") ∷ pool_option ∷ [])
+import_usage = tenant_usage (codes "import")
 
 -- `ask TENANT QUERY --pool FILE`
 abbrev pub ask_usage : Shape
@@ -49,7 +58,7 @@ ask_usage = subcommand (codes "ask")
 
 -- `check --pool FILE`
 abbrev pub check_usage : Shape
-check_usage = subcommand (codes "check") (pool_option ∷ [])
+check_usage = pool_usage (codes "check")
 
 -- `copy FROM TO --pool FILE`
 abbrev pub copy_usage : Shape
@@ -58,15 +67,15 @@ copy_usage = subcommand (codes "copy")
 
 -- `remove TENANT --pool FILE`
 abbrev pub remove_usage : Shape
-remove_usage = subcommand (codes "remove") (argument (codes "tenant") ∷ pool_option ∷ [])
+remove_usage = tenant_usage (codes "remove")
 
 -- `compact TENANT --pool FILE`
 abbrev pub compact_usage : Shape
-compact_usage = subcommand (codes "compact") (argument (codes "tenant") ∷ pool_option ∷ [])
+compact_usage = tenant_usage (codes "compact")
 
 -- `sizes --pool FILE`
 abbrev pub sizes_usage : Shape
-sizes_usage = subcommand (codes "sizes") (pool_option ∷ [])
+sizes_usage = pool_usage (codes "sizes")
 
 -- `extract TENANT --pool FILE --to FILE`
 abbrev pub extract_usage : Shape
@@ -79,22 +88,28 @@ merge_usage = subcommand (codes "merge") (argument (codes "file") ∷ pool_optio
 
 -- `host --pool FILE`
 abbrev pub host_usage : Shape
-host_usage = subcommand (codes "host") (pool_option ∷ [])
+host_usage = pool_usage (codes "host")
 
 -- `pack TENANT --pool FILE [--all]`
 abbrev pub pack_usage : Shape
 pack_usage = subcommand (codes "pack") (argument (codes "tenant") ∷ pool_option ∷ all_flag ∷ [])
 
--- The program: one of its subcommands has to be there, its own name is none of the words, and it
--- takes `--version`, which no subcommand does.
-abbrev pub gitpool : App
-gitpool = record {
+-- The program without subcommands: its own name is none of the words, and it takes `--version`,
+-- which no subcommand does.
+abbrev pub alone : App
+alone = record {
   top = record (new_shape (codes "gitpool")) {
-    is_leaf = false;
     no_binary_name = true;
     has_version = true;
     subcommand_required = true;
   };
+  subs = [];
+}
+
+-- The program: one of its subcommands has to be there.
+abbrev pub gitpool : App
+gitpool = record {
+  top = record alone.top { is_leaf = false };
   subs = serve_usage ∷ import_usage ∷ ask_usage ∷ check_usage ∷ copy_usage ∷ remove_usage
       ∷ compact_usage ∷ sizes_usage ∷ extract_usage ∷ merge_usage ∷ host_usage ∷ pack_usage ∷ [];
 }
@@ -108,13 +123,7 @@ ReadsWords command shape = (app_of command ≡ record { top = shape; subs = [] }
 abbrev pub taking : Shape → Rule → Shape
 taking shape rule = record shape { rules = shape.rules ++ rule ∷ [] }
 
--- The program without subcommands.
-abbrev pub alone : App
-alone = record {
-  top = record (new_shape (codes "gitpool")) {
-    no_binary_name = true;
-    has_version = true;
-    subcommand_required = true;
-  };
-  subs = [];
-}
+-- The command that was made takes one argument more.
+abbrev pub TakesMore : Result Command AllocError → Rule → Result Command AllocError → Type 0
+TakesMore old rule new = (shape : Shape) → IfOk old (λ c. ReadsWords c shape)
+    → IfOk new (λ c. ReadsWords c (taking shape rule))

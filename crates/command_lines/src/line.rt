@@ -4,13 +4,12 @@
 //! handles it.
 ghost use Rattle.std.specs.Prelude.{◌≡◌, ◌∷◌, [], IfErr, IfOk, MatchResult, Some, map};
 ghost use Rattle.std.specs.Prelude.{option_and_then, option_map, true};
-ghost use Rattle.clap.specs.Words.{FailsBy, fault_of, first_of, found_of, kind_of, rows_of};
+ghost use Rattle.clap.specs.Words.{FailsBy, Text, fault_of, first_of, found_of, kind_of, rows_of};
 ghost use Rattle.clap.specs.Words.{subcommand_of, subcommand_rows_of, takes};
 ghost use Rattle.clap.specs.declared.error.kind.ErrorKind.TheVariants.{DisplayVersion};
 ghost use Rattle.clap.specs.declared.error.kind.ErrorKind.TheVariants.{OutOfMemory};
-ghost use Rattle.command_lines.specs.Lines.{AsksVersion, Said, ask_in, compact_in, copy_in, extract_in};
-ghost use Rattle.command_lines.specs.Lines.{import_in, is_set, merge_in, pack_in, remove_in, said, said_by};
-ghost use Rattle.command_lines.specs.Lines.{said_in, words_of};
+ghost use Rattle.command_lines.specs.Lines.{AsksVersion, Said, is_set, said, said_by, said_in};
+ghost use Rattle.command_lines.specs.Lines.{two_given, words_of};
 ghost use Rattle.command_lines.specs.Usage.{gitpool};
 
 use crate::usage::gitpool;
@@ -94,6 +93,14 @@ fn value<'a>(given: &ArgMatches<'a>, id: &str) -> Option<&'a str>
     given.get_str(id)
 }
 
+// The values of two arguments that take one each.
+fn two_values<'a>(given: &ArgMatches<'a>, first: &str, second: &str) -> Option<(&'a str, &'a str)>
+    ensures { option_map {U = Text × Text} (λ s. (s.0.now, s.1.now)) result
+        ≡ two_given (rows_of (found_of given.now)) first.now second.now }
+{
+    Some((value(given, first)?, value(given, second)?))
+}
+
 // Whether a flag is among the words.
 fn is_set(given: &ArgMatches<'_>, id: &str) -> bool
     ensures { result ≡ is_set (rows_of (found_of given.now)) id.now }
@@ -155,90 +162,33 @@ impl<'a> Line<'a> {
         let pool = value(given, "pool")?;
         match name {
             "serve" => Some(Line::Serve { pool }),
-            "import" => Line::import(given, pool),
-            "ask" => Line::ask(given, pool),
+            "import" => value(given, "tenant").map(|tenant| Line::Import { tenant, pool }),
+            "ask" => two_values(given, "tenant", "query").map(|(tenant, query)| Line::Ask {
+                tenant,
+                query,
+                pool,
+            }),
             "check" => Some(Line::Check { pool }),
-            "copy" => Line::copy(given, pool),
-            "remove" => Line::remove(given, pool),
-            "compact" => Line::compact(given, pool),
+            "copy" => two_values(given, "from", "to").map(|(from, to)| Line::Copy {
+                from,
+                to,
+                pool,
+            }),
+            "remove" => value(given, "tenant").map(|tenant| Line::Remove { tenant, pool }),
+            "compact" => value(given, "tenant").map(|tenant| Line::Compact { tenant, pool }),
             "sizes" => Some(Line::Sizes { pool }),
-            "extract" => Line::extract(given, pool),
-            "merge" => Line::merge(given, pool),
+            "extract" => two_values(given, "tenant", "to").map(|(tenant, file)| Line::Extract {
+                tenant,
+                file,
+                pool,
+            }),
+            "merge" => value(given, "file").map(|file| Line::Merge { file, pool }),
             "host" => Some(Line::Host { pool }),
-            "pack" => Line::pack(given, pool),
+            "pack" => {
+                let all = is_set(given, "all");
+                value(given, "tenant").map(|tenant| Line::Pack { tenant, all, pool })
+            }
             _ => None,
         }
-    }
-
-    fn import(given: &ArgMatches<'a>, pool: &'a str) -> Option<Line<'a>>
-        ensures { option_map said result
-            ≡ import_in (rows_of (found_of given.now)) pool.entry.now }
-    {
-        let tenant = value(given, "tenant")?;
-        Some(Line::Import { tenant, pool })
-    }
-
-    fn ask(given: &ArgMatches<'a>, pool: &'a str) -> Option<Line<'a>>
-        ensures { option_map said result
-            ≡ ask_in (rows_of (found_of given.now)) pool.entry.now }
-    {
-        let tenant = value(given, "tenant")?;
-        let query = value(given, "query")?;
-        Some(Line::Ask {
-            tenant,
-            query,
-            pool,
-        })
-    }
-
-    fn copy(given: &ArgMatches<'a>, pool: &'a str) -> Option<Line<'a>>
-        ensures { option_map said result
-            ≡ copy_in (rows_of (found_of given.now)) pool.entry.now }
-    {
-        let from = value(given, "from")?;
-        let to = value(given, "to")?;
-        Some(Line::Copy { from, to, pool })
-    }
-
-    fn remove(given: &ArgMatches<'a>, pool: &'a str) -> Option<Line<'a>>
-        ensures { option_map said result
-            ≡ remove_in (rows_of (found_of given.now)) pool.entry.now }
-    {
-        let tenant = value(given, "tenant")?;
-        Some(Line::Remove { tenant, pool })
-    }
-
-    fn compact(given: &ArgMatches<'a>, pool: &'a str) -> Option<Line<'a>>
-        ensures { option_map said result
-            ≡ compact_in (rows_of (found_of given.now)) pool.entry.now }
-    {
-        let tenant = value(given, "tenant")?;
-        Some(Line::Compact { tenant, pool })
-    }
-
-    fn extract(given: &ArgMatches<'a>, pool: &'a str) -> Option<Line<'a>>
-        ensures { option_map said result
-            ≡ extract_in (rows_of (found_of given.now)) pool.entry.now }
-    {
-        let tenant = value(given, "tenant")?;
-        let file = value(given, "to")?;
-        Some(Line::Extract { tenant, file, pool })
-    }
-
-    fn merge(given: &ArgMatches<'a>, pool: &'a str) -> Option<Line<'a>>
-        ensures { option_map said result
-            ≡ merge_in (rows_of (found_of given.now)) pool.entry.now }
-    {
-        let file = value(given, "file")?;
-        Some(Line::Merge { file, pool })
-    }
-
-    fn pack(given: &ArgMatches<'a>, pool: &'a str) -> Option<Line<'a>>
-        ensures { option_map said result
-            ≡ pack_in (rows_of (found_of given.now)) pool.entry.now }
-    {
-        let tenant = value(given, "tenant")?;
-        let all = is_set(given, "all");
-        Some(Line::Pack { tenant, all, pool })
     }
 }

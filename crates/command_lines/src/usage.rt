@@ -7,12 +7,10 @@
 //! unchanged.
 ghost use Rattle.std.specs.Prelude.{◌≡◌, IfOk, codes, false, []};
 ghost use Rattle.clap.specs.Words.{App, Shape, app_of, rule_of, with_subcommand};
-ghost use Rattle.command_lines.specs.Usage.{ReadsWords, alone, argument, ask_usage, check_usage};
-ghost use Rattle.command_lines.specs.Usage.{all_flag, compact_usage, copy_usage, extract_usage};
-ghost use Rattle.command_lines.specs.Usage.{flag_of, gitpool, host_usage, import_usage, merge_usage};
-ghost use Rattle.command_lines.specs.Usage.{option_of, pack_usage, pool_option, remove_usage};
-ghost use Rattle.command_lines.specs.Usage.{serve_usage, sizes_usage};
-ghost use Rattle.command_lines.specs.Usage.{subcommand, taking, to_option};
+ghost use Rattle.command_lines.specs.Usage.{ReadsWords, TakesMore, all_flag, alone, argument};
+ghost use Rattle.command_lines.specs.Usage.{ask_usage, copy_usage, extract_usage, flag_of, gitpool};
+ghost use Rattle.command_lines.specs.Usage.{merge_usage, option_of, pack_usage, pool_option};
+ghost use Rattle.command_lines.specs.Usage.{pool_usage, subcommand, tenant_usage, to_option};
 
 use crate::version::VERSION;
 use clap::{Arg, ArgAction, Command};
@@ -61,8 +59,7 @@ fn with_word<'a>(
     shown: &'a str,
     help: &'a str,
 ) -> Result<Command<'a>, AllocError>
-    ensures { (shape : Shape) → IfOk command.entry (λ c. ReadsWords c shape)
-        → IfOk result (λ c. ReadsWords c (taking shape (argument id.entry.now))) }
+    ensures { TakesMore command.entry (argument id.entry.now) result }
 {
     command?.arg(argument(alloc, id, shown, help))
 }
@@ -71,8 +68,7 @@ fn with_tenant<'a>(
     alloc: Global,
     command: Result<Command<'a>, AllocError>,
 ) -> Result<Command<'a>, AllocError>
-    ensures { (shape : Shape) → IfOk command.entry (λ c. ReadsWords c shape)
-        → IfOk result (λ c. ReadsWords c (taking shape (argument (codes "tenant")))) }
+    ensures { TakesMore command.entry (argument (codes "tenant")) result }
 {
     with_word(alloc, command, "tenant", "TENANT", "The tenant's name")
 }
@@ -82,8 +78,7 @@ fn with_pool<'a>(
     alloc: Global,
     command: Result<Command<'a>, AllocError>,
 ) -> Result<Command<'a>, AllocError>
-    ensures { (shape : Shape) → IfOk command.entry (λ c. ReadsWords c shape)
-        → IfOk result (λ c. ReadsWords c (taking shape pool_option)) }
+    ensures { TakesMore command.entry pool_option result }
 {
     command?.arg(file_option(alloc, "pool", "The pool file"))
 }
@@ -93,8 +88,7 @@ fn with_target<'a>(
     alloc: Global,
     command: Result<Command<'a>, AllocError>,
 ) -> Result<Command<'a>, AllocError>
-    ensures { (shape : Shape) → IfOk command.entry (λ c. ReadsWords c shape)
-        → IfOk result (λ c. ReadsWords c (taking shape to_option)) }
+    ensures { TakesMore command.entry to_option result }
 {
     command?.arg(file_option(alloc, "to", "The pool file to write"))
 }
@@ -104,24 +98,23 @@ fn with_all<'a>(
     alloc: Global,
     command: Result<Command<'a>, AllocError>,
 ) -> Result<Command<'a>, AllocError>
-    ensures { (shape : Shape) → IfOk command.entry (λ c. ReadsWords c shape)
-        → IfOk result (λ c. ReadsWords c (taking shape all_flag)) }
+    ensures { TakesMore command.entry all_flag result }
 {
     command?.arg(flag(alloc, "all", "Also want every ref"))
 }
 
-fn serve<'a>(alloc: Global) -> Result<Command<'a>, AllocError>
-    ensures { IfOk result (λ c. ReadsWords c serve_usage) }
+// A subcommand that takes the pool file alone.
+fn for_pool<'a>(alloc: Global, name: &'a str, about: &'a str) -> Result<Command<'a>, AllocError>
+    ensures { IfOk result (λ c. ReadsWords c (pool_usage name.entry.now)) }
 {
-    let about = "Answer frames of steps from standard input on standard output";
-    with_pool(alloc, Ok(subcommand(alloc, "serve", about)))
+    with_pool(alloc, Ok(subcommand(alloc, name, about)))
 }
 
-fn import<'a>(alloc: Global) -> Result<Command<'a>, AllocError>
-    ensures { IfOk result (λ c. ReadsWords c import_usage) }
+// A subcommand that takes a tenant and the pool file.
+fn for_tenant<'a>(alloc: Global, name: &'a str, about: &'a str) -> Result<Command<'a>, AllocError>
+    ensures { IfOk result (λ c. ReadsWords c (tenant_usage name.entry.now)) }
 {
-    let about = "Import a stream of git-fast-import(1) from standard input";
-    let command = with_tenant(alloc, Ok(subcommand(alloc, "import", about)));
+    let command = with_tenant(alloc, Ok(subcommand(alloc, name, about)));
     with_pool(alloc, command)
 }
 
@@ -132,13 +125,6 @@ fn ask<'a>(alloc: Global) -> Result<Command<'a>, AllocError>
     let command = with_tenant(alloc, command);
     let command = with_word(alloc, command, "query", "QUERY", "The query, as one word");
     with_pool(alloc, command)
-}
-
-fn check<'a>(alloc: Global) -> Result<Command<'a>, AllocError>
-    ensures { IfOk result (λ c. ReadsWords c check_usage) }
-{
-    let about = "Check the pool file and count what it has";
-    with_pool(alloc, Ok(subcommand(alloc, "check", about)))
 }
 
 fn copy<'a>(alloc: Global) -> Result<Command<'a>, AllocError>
@@ -157,36 +143,11 @@ fn copy<'a>(alloc: Global) -> Result<Command<'a>, AllocError>
     with_pool(alloc, command)
 }
 
-fn remove<'a>(alloc: Global) -> Result<Command<'a>, AllocError>
-    ensures { IfOk result (λ c. ReadsWords c remove_usage) }
-{
-    let about = "Remove a tenant with all that it has";
-    let command = with_tenant(alloc, Ok(subcommand(alloc, "remove", about)));
-    with_pool(alloc, command)
-}
-
-fn compact<'a>(alloc: Global) -> Result<Command<'a>, AllocError>
-    ensures { IfOk result (λ c. ReadsWords c compact_usage) }
-{
-    let about = "Drop the objects that no ref of a tenant reaches";
-    let command = with_tenant(alloc, Ok(subcommand(alloc, "compact", about)));
-    with_pool(alloc, command)
-}
-
-fn sizes<'a>(alloc: Global) -> Result<Command<'a>, AllocError>
-    ensures { IfOk result (λ c. ReadsWords c sizes_usage) }
-{
-    let about = "Print how much each tenant has";
-    with_pool(alloc, Ok(subcommand(alloc, "sizes", about)))
-}
-
 fn extract<'a>(alloc: Global) -> Result<Command<'a>, AllocError>
     ensures { IfOk result (λ c. ReadsWords c extract_usage) }
 {
     let about = "Write a tenant to a pool file of its own";
-    let command = with_tenant(alloc, Ok(subcommand(alloc, "extract", about)));
-    let command = with_pool(alloc, command);
-    with_target(alloc, command)
+    with_target(alloc, for_tenant(alloc, "extract", about))
 }
 
 fn merge<'a>(alloc: Global) -> Result<Command<'a>, AllocError>
@@ -198,20 +159,11 @@ fn merge<'a>(alloc: Global) -> Result<Command<'a>, AllocError>
     with_pool(alloc, command)
 }
 
-fn host<'a>(alloc: Global) -> Result<Command<'a>, AllocError>
-    ensures { IfOk result (λ c. ReadsWords c host_usage) }
-{
-    let about = "Answer frames of steps and of the operator, and save when asked";
-    with_pool(alloc, Ok(subcommand(alloc, "host", about)))
-}
-
 fn pack<'a>(alloc: Global) -> Result<Command<'a>, AllocError>
     ensures { IfOk result (λ c. ReadsWords c pack_usage) }
 {
     let about = "Write a pack of what the lines of standard input ask for";
-    let command = with_tenant(alloc, Ok(subcommand(alloc, "pack", about)));
-    let command = with_pool(alloc, command);
-    with_all(alloc, command)
+    with_all(alloc, for_tenant(alloc, "pack", about))
 }
 
 // The program without its subcommands.
@@ -242,16 +194,23 @@ fn with<'a>(
 pub(crate) fn gitpool<'a>(alloc: Global) -> Result<Command<'a>, AllocError>
     ensures { IfOk result (λ c. app_of c ≡ gitpool) }
 {
-    let program = with(program(alloc), serve(alloc));
-    let program = with(program, import(alloc));
+    let about = "Answer frames of steps from standard input on standard output";
+    let program = with(program(alloc), for_pool(alloc, "serve", about));
+    let about = "Import a stream of git-fast-import(1) from standard input";
+    let program = with(program, for_tenant(alloc, "import", about));
     let program = with(program, ask(alloc));
-    let program = with(program, check(alloc));
+    let about = "Check the pool file and count what it has";
+    let program = with(program, for_pool(alloc, "check", about));
     let program = with(program, copy(alloc));
-    let program = with(program, remove(alloc));
-    let program = with(program, compact(alloc));
-    let program = with(program, sizes(alloc));
+    let about = "Remove a tenant with all that it has";
+    let program = with(program, for_tenant(alloc, "remove", about));
+    let about = "Drop the objects that no ref of a tenant reaches";
+    let program = with(program, for_tenant(alloc, "compact", about));
+    let about = "Print how much each tenant has";
+    let program = with(program, for_pool(alloc, "sizes", about));
     let program = with(program, extract(alloc));
     let program = with(program, merge(alloc));
-    let program = with(program, host(alloc));
+    let about = "Answer frames of steps and of the operator, and save when asked";
+    let program = with(program, for_pool(alloc, "host", about));
     with(program, pack(alloc))
 }

@@ -50,59 +50,7 @@ use Rattle.export_text.proofs.WrittenWords.{mark-spaceless, name-spaceless, name
 use Rattle.export_text.proofs.Asking.{Asks, AsksAlone, Gives, idle, under_way, nothing-asked, then-more, and-then, inside, data-inside, blank-inside, begins}
 use Rattle.export_text.proofs.FilesAsked.{Refers, CanWritePath, file-asked}
 
--- ---- the words of lines
-
-is-mark : (text : List ℕ) → part_of_line (codes "mark " ++ text) ≡ part.Header header.Mark
-unfolding part_by_word
-is-mark text = refl
-
-is-from : (text : List ℕ) → part_of_line (codes "from " ++ text) ≡ part.CommitIsh commit_ish.From
-unfolding part_by_word
-is-from text = refl
-
-is-merge : (text : List ℕ) → part_of_line (codes "merge " ++ text) ≡ part.CommitIsh commit_ish.Merge
-unfolding part_by_word
-is-merge text = refl
-
-is-commit : (text : List ℕ) → part_of_line (codes "commit " ++ text) ≡ part.Opening opening.Commit
-unfolding part_by_word
-is-commit text = refl
-
-is-tag : (text : List ℕ) → part_of_line (codes "tag " ++ text) ≡ part.Opening opening.Tag
-unfolding part_by_word
-is-tag text = refl
-
-is-reset : (text : List ℕ) → part_of_line (codes "reset " ++ text) ≡ part.Opening opening.Reset
-unfolding part_by_word
-is-reset text = refl
-
-is-author : (text : List ℕ) → part_of_line (codes "author " ++ text) ≡ part.Header header.Author
-unfolding part_by_word
-is-author text = refl
-
-is-committer : (text : List ℕ) → part_of_line (codes "committer " ++ text) ≡ part.Header header.Committer
-unfolding part_by_word
-is-committer text = refl
-
-is-encoding : (text : List ℕ) → part_of_line (codes "encoding " ++ text) ≡ part.Header header.Encoding
-unfolding part_by_word
-is-encoding text = refl
-
-is-tagger : (text : List ℕ) → part_of_line (codes "tagger " ++ text) ≡ part.Header header.Tagger
-unfolding part_by_word
-is-tagger text = refl
-
-is-blob : part_of_line (codes "blob") ≡ part.Opening opening.Blob
-unfolding part_by_word
-is-blob = refl
-
-is-deleteall : part_of_line (codes "deleteall") ≡ part.Change change_line.DeleteAll
-unfolding part_by_word
-is-deleteall = refl
-
-is-checkpoint : part_of_line (codes "checkpoint") ≡ part.Control control_line.Checkpoint
-unfolding part_by_word
-is-checkpoint = refl
+-- ---- the branch of commits
 
 scratch-read : ref_of scratch ≡ Ok scratch
 unfolding ref_of is_ref_name
@@ -161,7 +109,7 @@ module _ (ref : List ℕ) (is : ref_of ref ≡ Ok ref) where
   reset-begins : (late : Bool)
       → Gives (idle late) (Line (codes "reset " ++ ref)) (asks (Ref (Reset ref))) (under_way opened.Reset None reset_left)
   reset-begins late =
-      begins (idle late) (codes "reset " ++ ref) (part.Opening opening.Reset) reset_left (Ref (Reset ref)) (is-reset ref)
+      begins (idle late) (codes "reset " ++ ref) (part.Opening opening.Reset) reset_left (Ref (Reset ref)) (unfold part_by_word in refl)
       refl refl refl refl (ap (λ (r : Result (List ℕ) Fault). read r (λ x. Ok (Ref (Reset x)))) is)
 
 -- A checkpoint after a reset.
@@ -169,7 +117,7 @@ pub saving-asked : AsksAlone saving_items saving_acts
 saving-asked late = (
   true,
   then-more (reset-begins scratch scratch-read late)
-      (then-more (begins (under_way opened.Reset None reset_left) (codes "checkpoint") (part.Control control_line.Checkpoint) [] (Control control.Checkpoint) is-checkpoint refl refl refl refl refl)
+      (then-more (begins (under_way opened.Reset None reset_left) (codes "checkpoint") (part.Control control_line.Checkpoint) [] (Control control.Checkpoint) (unfold part_by_word in refl) refl refl refl refl refl)
       (nothing-asked (idle true))),
 )
 
@@ -180,7 +128,7 @@ pub reset-asked : (ref to : List ℕ) (commit : CommitIsh) → IsShortRefName re
 reset-asked ref to commit is says late = (
   true,
   then-more (reset-begins ref (ref_of-Ok ref (inl is.name) is.short) late)
-      (then-more (inside (under_way opened.Reset None reset_left) (codes "from " ++ to) (part.CommitIsh commit_ish.From) blank_left (effect None (Ref (ResetFrom commit))) (is-from to) refl says)
+      (then-more (inside (under_way opened.Reset None reset_left) (codes "from " ++ to) (part.CommitIsh commit_ish.From) blank_left (effect None (Ref (ResetFrom commit))) (unfold part_by_word in refl) refl says)
       (then-more (blank-inside (under_way opened.Reset None blank_left) [] refl) (nothing-asked (idle true)))),
 )
 
@@ -243,8 +191,8 @@ module _ (os : List Object) (few : length os ≤ objects_limit) where
   pub blob-asked : (id bytes : List ℕ) → AsksAlone (blob_items os id bytes) (blob_acts os id bytes)
   blob-asked id bytes late = (
     true,
-    then-more (begins (idle late) (codes "blob") (part.Opening opening.Blob) (perhaps (part.Header header.Mark) ∷ blob_data_left) Wait is-blob refl refl refl refl refl)
-        (then-more (inside (under_way opened.Blob None (perhaps (part.Header header.Mark) ∷ blob_data_left)) (codes "mark " ++ mark_text os id) (part.Header header.Mark) blob_data_left (effect (Some (number_of os id)) Wait) (is-mark (mark_text os id)) refl (mark-says opened.Blob None id))
+    then-more (begins (idle late) (codes "blob") (part.Opening opening.Blob) (perhaps (part.Header header.Mark) ∷ blob_data_left) Wait (unfold part_by_word in refl) refl refl refl refl refl)
+        (then-more (inside (under_way opened.Blob None (perhaps (part.Header header.Mark) ∷ blob_data_left)) (codes "mark " ++ mark_text os id) (part.Header header.Mark) blob_data_left (effect (Some (number_of os id)) Wait) (unfold part_by_word in refl) refl (mark-says opened.Blob None id))
         (then-more (data-inside (under_way opened.Blob (Some (number_of os id)) blob_data_left) bytes [] refl) (nothing-asked (idle true)))),
   )
 
@@ -277,7 +225,7 @@ module _ (os : List Object) (few : length os ≤ objects_limit) where
   encoding-ready mark (Some text) is = record {
     left = message_left;
     stands = refl;
-    asked = then-more (inside (under_way opened.Commit mark encoding_left) (codes "encoding " ++ text) (part.Header header.Encoding) message_left (effect mark (CommitAct (Encoding text))) (is-encoding text) refl
+    asked = then-more (inside (under_way opened.Commit mark encoding_left) (codes "encoding " ++ text) (part.Header header.Encoding) message_left (effect mark (CommitAct (Encoding text))) (unfold part_by_word in refl) refl
         (header-says encoding_act mark (encoding-read text is)))
         (nothing-asked (under_way opened.Commit mark message_left));
   }
@@ -299,9 +247,9 @@ module _ (os : List Object) (few : length os ≤ objects_limit) where
       left = ready.left;
       stands = ready.stands;
       asked =
-          then-more (inside (under_way opened.Commit None commit_left) (codes "mark " ++ mark_text os id) (part.Header header.Mark) author_left (effect the_mark Wait) (is-mark (mark_text os id)) refl (mark-says opened.Commit None id))
-          (then-more (inside (under_way opened.Commit the_mark author_left) (codes "author " ++ c.author) (part.Header header.Author) committer_left (effect the_mark (CommitAct (Author c.author))) (is-author c.author) refl (ident-says opened.Commit the_mark c.author can.author))
-          (then-more (inside (under_way opened.Commit the_mark committer_left) (codes "committer " ++ c.committer) (part.Header header.Committer) encoding_left (effect the_mark (CommitAct (Committer c.committer))) (is-committer c.committer) refl (committer-says opened.Commit the_mark c.committer can.committer))
+          then-more (inside (under_way opened.Commit None commit_left) (codes "mark " ++ mark_text os id) (part.Header header.Mark) author_left (effect the_mark Wait) (unfold part_by_word in refl) refl (mark-says opened.Commit None id))
+          (then-more (inside (under_way opened.Commit the_mark author_left) (codes "author " ++ c.author) (part.Header header.Author) committer_left (effect the_mark (CommitAct (Author c.author))) (unfold part_by_word in refl) refl (ident-says opened.Commit the_mark c.author can.author))
+          (then-more (inside (under_way opened.Commit the_mark committer_left) (codes "committer " ++ c.committer) (part.Header header.Committer) encoding_left (effect the_mark (CommitAct (Committer c.committer))) (unfold part_by_word in refl) refl (committer-says opened.Commit the_mark c.committer can.committer))
           ready.asked));
     }
 
@@ -309,7 +257,7 @@ module _ (os : List Object) (few : length os ≤ objects_limit) where
         → is_commit now.opened ≡ false
         → Gives now (Line (codes "commit " ++ scratch)) (asks (CommitAct (Begin scratch))) (under_way opened.Commit None commit_left)
     commit-line now none outside =
-        begins now (codes "commit " ++ scratch) (part.Opening opening.Commit) commit_left (CommitAct (Begin scratch)) (is-commit scratch) none refl refl outside
+        begins now (codes "commit " ++ scratch) (part.Opening opening.Commit) commit_left (CommitAct (Begin scratch)) (unfold part_by_word in refl) none refl refl outside
         (ap (λ (r : Result (List ℕ) Fault). read r (λ x. Ok (CommitAct (Begin x)))) scratch-read)
 
     head-ready : (late : Bool) (parents : List (List ℕ))
@@ -336,7 +284,7 @@ module _ (os : List Object) (few : length os ≤ objects_limit) where
       → Asks (under_way opened.Changes None merges_left) (map (marked os (codes "merge ")) ids) (map (merges os) ids) (under_way opened.Changes None merges_left)
   merges-asked [] = nothing-asked (under_way opened.Changes None merges_left)
   merges-asked (id ∷ ids) =
-      then-more (inside (under_way opened.Changes None merges_left) (codes "merge " ++ mark_text os id) (part.CommitIsh commit_ish.Merge) merges_left (effect None (CommitAct (Merge (Marked (number_of os id))))) (is-merge (mark_text os id)) refl (merge-says opened.Changes None id))
+      then-more (inside (under_way opened.Changes None merges_left) (codes "merge " ++ mark_text os id) (part.CommitIsh commit_ish.Merge) merges_left (effect None (CommitAct (Merge (Marked (number_of os id))))) (unfold part_by_word in refl) refl (merge-says opened.Changes None id))
       (merges-asked ids)
 
   parents-asked : (ids : List (List ℕ)) → Dropping (parent_items os ids) (parent_acts os ids)
@@ -348,7 +296,7 @@ module _ (os : List Object) (few : length os ≤ objects_limit) where
   parents-asked (first ∷ others) = record {
     left = merges_left;
     stands = refl;
-    asked = then-more (inside (under_way opened.Changes None from_left) (codes "from " ++ mark_text os first) (part.CommitIsh commit_ish.From) merges_left (effect None (from_act opened.Changes (Marked (number_of os first)))) (is-from (mark_text os first)) refl (from-says opened.Changes None first))
+    asked = then-more (inside (under_way opened.Changes None from_left) (codes "from " ++ mark_text os first) (part.CommitIsh commit_ish.From) merges_left (effect None (from_act opened.Changes (Marked (number_of os first)))) (unfold part_by_word in refl) refl (from-says opened.Changes None first))
         (merges-asked others);
   }
 
@@ -388,7 +336,7 @@ module _ (os : List Object) (few : length os ≤ objects_limit) where
         and-then (and-then (and-then (and-then head.asked
             (then-more (data-inside (under_way opened.Commit (Some (number_of os id)) head.left) c.message from_left head.stands) (nothing-asked (under_way opened.Changes None from_left))))
             parents.asked)
-            (then-more (inside (under_way opened.Changes None parents.left) (codes "deleteall") (part.Change change_line.DeleteAll) changes_left (effect None (Change DeleteAll)) is-deleteall parents.stands refl)
+            (then-more (inside (under_way opened.Changes None parents.left) (codes "deleteall") (part.Change change_line.DeleteAll) changes_left (effect None (Change DeleteAll)) (unfold part_by_word in refl) parents.stands refl)
             (files-asked (listed (stored_map os c.tree)) files)))
             (then-more (blank-inside (under_way opened.Changes None changes_left) [] refl) (nothing-asked (idle true))),
       )
@@ -410,7 +358,7 @@ module _ (os : List Object) (few : length os ≤ objects_limit) where
   tagger-asked mark (Some ident) is = record {
     left = tag_data_left;
     stands = refl;
-    asked = then-more (inside (under_way opened.Tag mark tagger_left) (codes "tagger " ++ ident) (part.Header header.Tagger) tag_data_left (effect mark (ObjectAct (Tagger ident))) (is-tagger ident) refl
+    asked = then-more (inside (under_way opened.Tag mark tagger_left) (codes "tagger " ++ ident) (part.Header header.Tagger) tag_data_left (effect mark (ObjectAct (Tagger ident))) (unfold part_by_word in refl) refl
         (header-says tagger_act mark (ident-read ident is)))
         (nothing-asked (under_way opened.Tag mark tag_data_left));
   }
@@ -423,7 +371,7 @@ module _ (os : List Object) (few : length os ≤ objects_limit) where
   target-asked now front acts mark left t begun stands can =
       let tagger = tagger-asked mark t.tagger can.tagger in
       and-then (and-then (and-then begun
-      (then-more (inside (under_way opened.Tag mark left) (codes "from " ++ mark_text os t.target) (part.CommitIsh commit_ish.From) tagger_left (effect mark (from_act opened.Tag (Marked (number_of os t.target)))) (is-from (mark_text os t.target)) stands (from-says opened.Tag mark t.target))
+      (then-more (inside (under_way opened.Tag mark left) (codes "from " ++ mark_text os t.target) (part.CommitIsh commit_ish.From) tagger_left (effect mark (from_act opened.Tag (Marked (number_of os t.target)))) (unfold part_by_word in refl) stands (from-says opened.Tag mark t.target))
       (nothing-asked (under_way opened.Tag mark tagger_left))))
       tagger.asked)
       (then-more (data-inside (under_way opened.Tag mark tagger.left) t.message [] tagger.stands) (nothing-asked (idle true)))
@@ -431,7 +379,7 @@ module _ (os : List Object) (few : length os ≤ objects_limit) where
   tag-line : (late : Bool) (name : List ℕ) → IsShortRefName (tag_ref name)
       → Gives (idle late) (Line (codes "tag " ++ name)) (asks (ObjectAct (BeginTag (tag_ref name)))) (under_way opened.Tag None (perhaps (part.Header header.Mark) ∷ target_left))
   tag-line late name is =
-      begins (idle late) (codes "tag " ++ name) (part.Opening opening.Tag) (perhaps (part.Header header.Mark) ∷ target_left) (ObjectAct (BeginTag (tag_ref name))) (is-tag name) refl refl refl refl
+      begins (idle late) (codes "tag " ++ name) (part.Opening opening.Tag) (perhaps (part.Header header.Mark) ∷ target_left) (ObjectAct (BeginTag (tag_ref name))) (unfold part_by_word in refl) refl refl refl refl
       (ap (λ (r : Result (List ℕ) Fault). read r (λ x. Ok (ObjectAct (BeginTag x)))) (ref_of-Ok (tag_ref name) (inl is.name) is.short))
 
   pub tag-asked : (id : List ℕ) (t : Tag) → CanWriteTag t → length (tag_ref t.name) ≤ 1024
@@ -440,7 +388,7 @@ module _ (os : List Object) (few : length os ≤ objects_limit) where
     true,
     target-asked (idle late) (Line (codes "tag " ++ t.name) ∷ marked os (codes "mark ") id ∷ []) (asks (ObjectAct (BeginTag (tag_ref t.name))) ∷ asks Wait ∷ []) (Some (number_of os id)) target_left t
         (then-more (tag-line late t.name (record { name = can.name; short = short }))
-        (then-more (inside (under_way opened.Tag None (perhaps (part.Header header.Mark) ∷ target_left)) (codes "mark " ++ mark_text os id) (part.Header header.Mark) target_left (effect (Some (number_of os id)) Wait) (is-mark (mark_text os id)) refl (mark-says opened.Tag None id))
+        (then-more (inside (under_way opened.Tag None (perhaps (part.Header header.Mark) ∷ target_left)) (codes "mark " ++ mark_text os id) (part.Header header.Mark) target_left (effect (Some (number_of os id)) Wait) (unfold part_by_word in refl) refl (mark-says opened.Tag None id))
         (nothing-asked (under_way opened.Tag (Some (number_of os id)) target_left)))) refl can,
   )
 

@@ -42,7 +42,7 @@ use Rattle.file_maps.proofs.ListedOrder.{tree-in-order, listed-with}
 use Rattle.file_maps.proofs.Listing.{all-append, tree-sound, IsSound}
 use Rattle.stream_lex.specs.Items.{Item}
 use Rattle.stream_grammar.specs.Commands.{end_of}
-use Rattle.export_text.specs.Export.{items_of_ref, ref_items, object_items, saving_items, removal_items, all_ref_items, export_items}
+use Rattle.export_text.specs.Export.{items_of_ref, ref_items, object_items, saving_items, removal_items, export_items}
 use Rattle.export_text.specs.ExportActs.{acts_of, acts_of_object, acts_of_ref, ref_acts, removal_acts, export_acts, AsksFor}
 use Rattle.export_text.specs.ExportItems.{items_of, items_of_object}
 use Rattle.export_text.specs.Limits.{FitsPath, Fits, CanExport}
@@ -261,10 +261,6 @@ module _ (digest : List ℕ → List ℕ) (repository : Repository)
       (both-all (IsKnown os) (λ o. is_tag o ≡ true) (reached_tags repository)
       (all-filter (IsKnown os) is_tag (reached_objects repository) reached-known)
       (filter-all is_tag (reached_objects repository))))))
-
-  abbrev later_items : List Item
-  later_items = object_items repository ++ saving_items
-      ++ flat_map removal_items (extra_tag_refs repository) ++ all_ref_items repository
 
   export-asked : (later : Bool) × Asks (idle false) (export_items repository) (export_acts repository) (idle later)
   export-asked =

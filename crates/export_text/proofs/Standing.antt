@@ -49,7 +49,7 @@ valid-named digest os id c good is =
     let each = at_place (IsObject digest os) os (place_of id os) good.each at.within in
     (subst (IsObject digest os) at.object each).valid
 
-parent_names : (ps : List (List ℕ)) → names_in (map (reference kind.Commit) ps) ≡ ps
+pub parent_names : (ps : List (List ℕ)) → names_in (map (reference kind.Commit) ps) ≡ ps
 parent_names [] = refl
 parent_names (p ∷ ps) = ap (λ rest. p ∷ rest) (parent_names ps)
 

@@ -44,7 +44,7 @@ use Rattle.stream_lex.specs.Items.{Item, Line, Data, Blank}
 use Rattle.stream_lex.specs.Reading.{reading}
 use Rattle.stream_lex.specs.Items.{Rest}
 use Rattle.stream_lex.proofs.Cases.{by_cases}
-use Rattle.export_text.specs.Export.{head_items, opening_items, object_items, saving_items, removal_items, ref_items, items_of_ref, all_ref_items, export_items, export_text}
+use Rattle.export_text.specs.Export.{head_items, opening_items, object_items, saving_items, removal_items, ref_items, items_of_ref, export_items, export_text}
 use Rattle.export_text.specs.ExportActs.{number_of}
 use Rattle.export_text.specs.ExportItems.{mark_text, marked, line_if, scratch, fresh_branch, parent_items, dataref_text, item_of_file, file_items, commit_head, commit_items, mark_if, tag_items, items_of, items_of_object}
 use Rattle.export_text.specs.ItemText.{CanWriteItem}
@@ -417,7 +417,7 @@ module _ (digest : List ℕ → List ℕ) (repository : Repository)
       (scratch-line, (word-written (codes "checkpoint") refl refl refl refl refl, tt)) in
       let before : List Item = opening_items repository.refs ++ object_items repository in
       let removed : List Item = flat_map removal_items (extra_tag_refs repository) in
-      both (before ++ saving_items ++ removed) (all_ref_items repository)
+      both (before ++ saving_items ++ removed) (flat_map (items_of_ref os) (listed_refs repository.refs))
       (both (before ++ saving_items) removed
       (both before saving_items (both (opening_items repository.refs) (object_items repository) opening objects) saving)
       removals) refs

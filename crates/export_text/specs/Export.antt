@@ -5,14 +5,13 @@ use Rattle.std.specs.Str.{bytes_eq}
 use Rattle.git_model.specs.declared.kind.Kind.{Kind}
 use Rattle.git_model.specs.declared.kind.Kind.TheVariants as kind
 use Rattle.git_model.specs.TagReading.{tag_read}
-use Rattle.git_model.specs.RefStore.{RefStore, first_head, listed_refs}
+use Rattle.git_model.specs.RefStore.{RefStore, first_head}
 use Rattle.git_model.specs.Repository.{Object, Repository}
-use Rattle.git_model.specs.References.{content_named}
 use Rattle.stream_lex.specs.Items.{Item, Line, Blank}
 use Rattle.export_text.specs.declared.fault.Fault.{Fault}
 use Rattle.export_text.specs.declared.fault.Fault.TheVariants as fault
 use Rattle.export_text.specs.ItemText.{items_text}
-use Rattle.export_text.specs.Reached.{reached_objects, extra_tag_refs, is_exportable}
+use Rattle.export_text.specs.Reached.{reached_objects, is_exportable, by_target, in_order}
 use Rattle.export_text.specs.ExportItems.{marked, scratch, tag_items, items_of_object}
 
 -- First the stream may move refs to any commit, and HEAD is set where it is not that of a new
@@ -46,20 +45,11 @@ ref_items os ref id other bytes =
     Line (codes "reset " ++ ref) ∷ marked os (codes "from ") id ∷ Blank ∷ []
 
 abbrev pub items_of_ref : List Object → List ℕ × List ℕ → List Item
-items_of_ref os ref = let content = content_named ref.1 os in
-    ref_items os ref.0 ref.1 content.kind content.bytes
+items_of_ref = by_target ref_items
 
-abbrev pub all_ref_items : Repository → List Item
-all_ref_items repository =
-    flat_map (items_of_ref repository.objects) (listed_refs repository.refs)
-
--- The items of an export, in this order.
+-- The items of an export.
 abbrev pub export_items : Repository → List Item
-export_items repository = opening_items repository.refs
-    ++ object_items repository
-    ++ saving_items
-    ++ flat_map removal_items (extra_tag_refs repository)
-    ++ all_ref_items repository
+export_items = in_order opening_items items_of_object saving_items removal_items items_of_ref
 
 -- The text of an export.
 unfoldable pub export_text : Repository → List ℕ

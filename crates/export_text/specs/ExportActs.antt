@@ -12,7 +12,7 @@ use Rattle.git_model.specs.Tag.{Tag}
 use Rattle.git_model.specs.TagReading.{tag_read}
 use Rattle.git_model.specs.RefStore.{RefStore, first_head, listed_refs}
 use Rattle.git_model.specs.Repository.{Object, Repository}
-use Rattle.git_model.specs.References.{content_named, place_of}
+use Rattle.git_model.specs.References.{place_of}
 use Rattle.file_maps.specs.declared.entry.Entry.{Entry}
 use Rattle.file_maps.specs.FileMap.{Path, listed}
 use Rattle.file_maps.specs.StoredFiles.{stored_map}
@@ -28,7 +28,7 @@ use Rattle.stream_grammar.specs.Acts.{Begin, Author, Committer, Encoding, Messag
 use Rattle.stream_grammar.specs.Acts.{Modify, DeleteAll}
 use Rattle.stream_grammar.specs.Acts.{Reset, ResetFrom}
 use Rattle.stream_grammar.specs.Commands.{Done, commands, end_of, top}
-use Rattle.export_text.specs.Reached.{tag_ref, reached_objects, extra_tag_refs}
+use Rattle.export_text.specs.Reached.{tag_ref, reached_objects, by_target, in_order}
 use Rattle.export_text.specs.ExportItems.{scratch}
 use Rattle.export_text.specs.Export.{export_items}
 
@@ -137,8 +137,7 @@ ref_acts os ref id kind.Tag bytes = tag_acts os None (tag_read bytes)
 ref_acts os ref id other bytes = reset_acts ref (Marked (number_of os id))
 
 abbrev pub acts_of_ref : List Object → List ℕ × List ℕ → List Done
-acts_of_ref os ref = let content = content_named ref.1 os in
-    ref_acts os ref.0 ref.1 content.kind content.bytes
+acts_of_ref = by_target ref_acts
 
 abbrev pub all_ref_acts : Repository → List Done
 all_ref_acts repository =
@@ -146,11 +145,7 @@ all_ref_acts repository =
 
 -- What an export asks for, item by item.
 abbrev pub export_acts : Repository → List Done
-export_acts repository = opening_acts repository.refs
-    ++ object_acts repository
-    ++ saving_acts
-    ++ flat_map removal_acts (extra_tag_refs repository)
-    ++ all_ref_acts repository
+export_acts = in_order opening_acts acts_of_object saving_acts removal_acts acts_of_ref
 
 -- The commands of an export are these acts, and it ends where a stream may end, outside a commit.
 pub record AsksFor (repository : Repository) : Type 0 where

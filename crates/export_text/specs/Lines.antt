@@ -4,6 +4,7 @@ use Rattle.std.specs.Prelude.{◌≡◌, ℕ, zero, suc, ◌≤◌, List, [], �
 use Rattle.std.specs.List.{flat_map}
 use Rattle.git_model.specs.declared.file_mode.FileMode.{FileMode}
 use Rattle.git_model.specs.declared.file_mode.FileMode.TheVariants as mode
+use Rattle.git_model.specs.GoodRepository.{AreObjects}
 use Rattle.git_model.specs.Modes.{six_digits}
 use Rattle.git_model.specs.Repository.{Object}
 use Rattle.git_model.specs.StoredPath.{entries_of}
@@ -50,3 +51,7 @@ pub record IsTold (os : List Object) (out : List ℕ) (d : Directory) : Type 0 w
 
 abbrev pub AreTold : List Object → List ℕ → Directories → Type 0
 AreTold os out told = All (IsTold os out) told.directories.items
+
+-- What is claimed where the objects are good and the lines of these directories stand in the text.
+abbrev pub WhereTold : (List ℕ → List ℕ) → List Object → List ℕ → Directories → Type 0 → Type 0
+WhereTold digest os out told Claim = AreObjects digest os → AreTold os out told → Claim

@@ -1,5 +1,7 @@
 -- Flags of objects by their places, for private contracts.
-use Rattle.std.specs.Prelude.{ℕ, true, Bool, List, [], ◌∷◌, map, set}
+use Rattle.std.specs.Prelude.{◌≡◌, ℕ, true, Bool, List, [], ◌∷◌, map, set}
+use Rattle.git_model.specs.GoodRepository.{AreObjects}
+use Rattle.git_model.specs.RefStore.{RefStore}
 use Rattle.git_model.specs.Repository.{Object, Repository}
 use Rattle.git_model.specs.References.{Reference, place_of}
 use Rattle.git_model.specs.Reach.{is_referred_to}
@@ -16,3 +18,11 @@ names_in references = map (λ r. r.id) references
 -- A flag for each object: whether some ref reaches it.
 abbrev pub reached_flags : Repository → List Bool
 reached_flags repository = map (λ o. is_referred_to repository o.id) repository.objects
+
+-- What is claimed of a repository, where its objects are good and the flags are those of what its
+-- refs reach.
+abbrev pub WhereReached : (List ℕ → List ℕ) → List Object → RefStore → List Bool
+    → (Repository → Type 0) → Type 0
+WhereReached digest os refs flags Claim =
+    let r : Repository = record { objects = os; refs = refs } in
+    AreObjects digest os → flags ≡ reached_flags r → Claim r

@@ -3,13 +3,12 @@
 ghost use Rattle.std.specs.Prelude.{◌≡◌, ◌++◌, [], ◌∷◌, length, map, take, Some, OnOk, codes};
 ghost use Rattle.git_model.specs.Commit.{Commit, CanWriteCommit, commit_contents};
 ghost use Rattle.git_model.specs.CommitReading.{commit_read};
-ghost use Rattle.git_model.specs.GoodRepository.{AreObjects};
 ghost use Rattle.git_model.specs.References.{kind_named};
 ghost use Rattle.git_model.specs.declared.kind.Kind.TheVariants as kind;
 ghost use Rattle.git_objects.specs.Parts.{commit_of};
 ghost use Rattle.export_text.specs.ItemText.{items_text};
 ghost use Rattle.export_text.specs.ExportItems.{commit_head, commit_items, fresh_branch, marked, parent_items};
-ghost use Rattle.export_text.specs.Lines.{AreTold};
+ghost use Rattle.export_text.specs.Lines.{AreTold, WhereTold};
 
 use crate::file_text::append_all_files;
 use crate::item_text::{append_blank, append_data, append_line, append_line_if};
@@ -93,14 +92,12 @@ fn append_parts_of_commit<N: Naming>(
     told: &mut Directories,
     out: &mut Vec<u8>,
 ) -> Result<(), Memory>
-    ensures written { AreObjects N.digest_of objects.now
-        → AreTold objects.now out.old.items told.old
-        → kind_named parts.now.tree objects.now ≡ Some kind.Tree
+    ensures written { WhereTold N.digest_of objects.now out.old.items told.old
+        (kind_named parts.now.tree objects.now ≡ Some kind.Tree
         → OnOk result (out.new.items
-        ≡ out.old.items ++ items_text (commit_items objects.now id.now (commit_of parts.now))) }
-    ensures in_mind { AreObjects N.digest_of objects.now
-        → AreTold objects.now out.old.items told.old
-        → OnOk result (AreTold objects.now out.new.items told.new) }
+        ≡ out.old.items ++ items_text (commit_items objects.now id.now (commit_of parts.now)))) }
+    ensures in_mind { WhereTold N.digest_of objects.now out.old.items told.old
+        (OnOk result (AreTold objects.now out.new.items told.new)) }
     ensures kept { take (length out.old.items) out.new.items ≡ out.old.items }
 {
     append_head(objects, id, parts, out)?;
@@ -120,17 +117,15 @@ pub fn append_commit<N: Naming>(
     told: &mut Directories,
     out: &mut Vec<u8>,
 ) -> Result<(), Memory>
-    ensures written { AreObjects N.digest_of objects.now
-        → AreTold objects.now out.old.items told.old
-        → (c : Commit) → CanWriteCommit c
+    ensures written { WhereTold N.digest_of objects.now out.old.items told.old
+        ((c : Commit) → CanWriteCommit c
         → contents.now ≡ commit_contents c
         → kind_named (commit_read contents.now).tree objects.now ≡ Some kind.Tree
         → OnOk result (out.new.items
         ≡ out.old.items ++ items_text (commit_items objects.now id.now
-        (commit_read contents.now))) }
-    ensures in_mind { AreObjects N.digest_of objects.now
-        → AreTold objects.now out.old.items told.old
-        → OnOk result (AreTold objects.now out.new.items told.new) }
+        (commit_read contents.now)))) }
+    ensures in_mind { WhereTold N.digest_of objects.now out.old.items told.old
+        (OnOk result (AreTold objects.now out.new.items told.new)) }
     ensures kept { take (length out.old.items) out.new.items ≡ out.old.items }
 {
     match read_commit(alloc, contents)? {

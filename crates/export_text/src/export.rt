@@ -4,11 +4,10 @@ ghost use Rattle.std.specs.Prelude.{◌≡◌, ◌++◌, ◌+◌, nat_le, length
 ghost use Rattle.git_model.specs.Limits.{export_refs_limit};
 ghost use Rattle.git_model.specs.GoodRepository.{AreObjects};
 ghost use Rattle.git_model.specs.RefStore.{listed_refs};
-ghost use Rattle.git_model.specs.Repository.{Repository};
 ghost use Rattle.export_text.specs.ItemText.{items_text};
 ghost use Rattle.export_text.specs.Reached.{is_exportable, tag_refs};
-ghost use Rattle.export_text.specs.Marking.{reached_flags};
-ghost use Rattle.export_text.specs.Export.{Exports, export_items, head_items, opening_items, saving_items};
+ghost use Rattle.export_text.specs.Marking.{WhereReached};
+ghost use Rattle.export_text.specs.Export.{Exports, head_items, opening_items, saving_items};
 
 use crate::commit_text::SCRATCH;
 use crate::fault::Fault;
@@ -58,28 +57,6 @@ fn append_saving(out: &mut Vec<u8>) -> Result<(), Memory>
     append_line(b"checkpoint", b"", out)
 }
 
-// Appends the text of an export: the objects that have a flag, and the refs.
-fn append_text<N: Naming>(
-    alloc: Global,
-    objects: &Objects<'_, N>,
-    refs: &Refs,
-    reached: &[bool],
-    ref_names: &[RefName],
-    out: &mut Vec<u8>,
-) -> Result<(), Memory>
-    ensures written { let r : Repository = record { objects = objects.now; refs = refs.now } in
-        AreObjects N.digest_of objects.now → reached.now ≡ reached_flags r
-        → ref_names.now ≡ tag_refs r
-        → OnOk result (out.new.items ≡ out.old.items ++ items_text (export_items r)) }
-    ensures kept { take (length out.old.items) out.new.items ≡ out.old.items }
-{
-    append_opening(refs, out)?;
-    append_objects(alloc, objects, reached, out)?;
-    append_saving(out)?;
-    append_removals(refs, ref_names, out)?;
-    append_refs(alloc, objects, refs, out)
-}
-
 // Whether an import may set these refs, and those of tags.
 fn are_few(refs: &Refs, ref_names: &[RefName]) -> bool
     ensures { result
@@ -100,15 +77,15 @@ pub fn is_exportable<N: Naming>(
     refs: &Refs,
     reached: &[bool],
 ) -> Result<bool, Memory>
-    ensures { let r : Repository = record { objects = objects.now; refs = refs.now } in
-        AreObjects N.digest_of objects.now → reached.now ≡ reached_flags r
-        → IfOk result (λ few. few ≡ is_exportable r) }
+    ensures { WhereReached N.digest_of objects.now refs.now reached.now
+        (λ r. IfOk result (λ few. few ≡ is_exportable r)) }
 {
     let ref_names = tag_refs(alloc, objects, reached)?;
     Ok(are_few(refs, &ref_names))
 }
 
-// Appends the export, where an import may set so many refs.
+// Appends the export, where an import may set so many refs: the objects that have a flag, and the
+// refs.
 fn append_if_few<N: Naming>(
     alloc: Global,
     objects: &Objects<'_, N>,
@@ -117,50 +94,37 @@ fn append_if_few<N: Naming>(
     ref_names: &[RefName],
     out: &mut Vec<u8>,
 ) -> Result<(), Fault>
-    ensures exports { let r : Repository = record { objects = objects.now; refs = refs.now } in
-        AreObjects N.digest_of objects.now → reached.now ≡ reached_flags r
-        → ref_names.now ≡ tag_refs r → Exports r out.old.items out.new.items result }
+    ensures exports { WhereReached N.digest_of objects.now refs.now reached.now
+        (λ r. ref_names.now ≡ tag_refs r → Exports r out.old.items out.new.items result) }
     ensures kept { take (length out.old.items) out.new.items ≡ out.old.items }
 {
     if !are_few(refs, ref_names) {
         return Err(Fault::Limit);
     }
-    append_text(alloc, objects, refs, reached, ref_names, out)?;
+    append_opening(refs, out)?;
+    append_objects(alloc, objects, reached, out)?;
+    append_saving(out)?;
+    append_removals(refs, ref_names, out)?;
+    append_refs(alloc, objects, refs, out)?;
     Ok(())
 }
 
-// Appends the export, given a flag for each object that is reached. Owned values are made apart
-// from the steps that may fail, since each exit of an owner makes its proof longer.
-fn append_reached<N: Naming>(
-    alloc: Global,
-    objects: &Objects<'_, N>,
-    refs: &Refs,
-    reached: &[bool],
-    out: &mut Vec<u8>,
-) -> Result<(), Fault>
-    ensures exports { let r : Repository = record { objects = objects.now; refs = refs.now } in
-        AreObjects N.digest_of objects.now → reached.now ≡ reached_flags r
-        → Exports r out.old.items out.new.items result }
-    ensures kept { take (length out.old.items) out.new.items ≡ out.old.items }
-{
-    let ref_names = tag_refs(alloc, objects, reached)?;
-    append_if_few(alloc, objects, refs, reached, &ref_names, out)
-}
-
-// Appends the export, or a piece of it where memory runs out.
+// Appends the export, or a piece of it where memory runs out. Owned values are made apart from the
+// steps that may fail, since each exit of an owner makes its proof longer.
 fn append_pieces<N: Naming>(
     alloc: Global,
     objects: &Objects<'_, N>,
     refs: &Refs,
     out: &mut Vec<u8>,
 ) -> Result<(), Fault>
+    ensures kept { take (length out.old.items) out.new.items ≡ out.old.items }
     ensures exports { AreObjects N.digest_of objects.now
         → Exports (record { objects = objects.now; refs = refs.now })
         out.old.items out.new.items result }
-    ensures kept { take (length out.old.items) out.new.items ≡ out.old.items }
 {
     let reached = reached(alloc, objects, refs)?;
-    append_reached(alloc, objects, refs, &reached, out)
+    let ref_names = tag_refs(alloc, objects, &reached)?;
+    append_if_few(alloc, objects, refs, &reached, &ref_names, out)
 }
 
 /// Appends the export of a repository, a stream of git-fast-import(1): what the refs reach, the

@@ -12,7 +12,7 @@ ghost use Rattle.git_objects.specs.Parts.{entry_of, entries_of};
 ghost use Rattle.git_paths.specs.Quoting.{quoted};
 ghost use Rattle.export_text.specs.ItemText.{items_text};
 ghost use Rattle.export_text.specs.ExportItems.{dataref_text, file_items};
-ghost use Rattle.export_text.specs.Lines.{AreTold, file_line, lines_within, prefix_below};
+ghost use Rattle.export_text.specs.Lines.{AreTold, WhereTold, file_line, lines_within, prefix_below};
 
 use crate::item_text::append_line;
 use crate::mark_text::append_mark;
@@ -132,13 +132,11 @@ fn append_files<N: Naming>(
     told: &mut Directories,
     out: &mut Vec<u8>,
 ) -> Result<(), Memory>
-    ensures written { AreObjects N.digest_of objects.now
-        → AreTold objects.now out.old.items told.old
-        → OnOk result (out.new.items
-        ≡ out.old.items ++ lines_within objects.now levels prefix.old.items tree.now) }
-    ensures in_mind { AreObjects N.digest_of objects.now
-        → AreTold objects.now out.old.items told.old
-        → OnOk result (AreTold objects.now out.new.items told.new) }
+    ensures written { WhereTold N.digest_of objects.now out.old.items told.old
+        (OnOk result (out.new.items
+        ≡ out.old.items ++ lines_within objects.now levels prefix.old.items tree.now)) }
+    ensures in_mind { WhereTold N.digest_of objects.now out.old.items told.old
+        (OnOk result (AreTold objects.now out.new.items told.new)) }
     ensures prefix { OnOk result (prefix.new.items ≡ prefix.old.items) }
     ensures kept { take (length out.old.items) out.new.items ≡ out.old.items }
 {
@@ -175,13 +173,11 @@ pub fn append_all_files<N: Naming>(
     told: &mut Directories,
     out: &mut Vec<u8>,
 ) -> Result<(), Memory>
-    ensures written { AreObjects N.digest_of objects.now
-        → AreTold objects.now out.old.items told.old
-        → kind_named tree.now objects.now ≡ Some kind.Tree → OnOk result (out.new.items
-        ≡ out.old.items ++ items_text (file_items objects.now tree.now)) }
-    ensures in_mind { AreObjects N.digest_of objects.now
-        → AreTold objects.now out.old.items told.old
-        → OnOk result (AreTold objects.now out.new.items told.new) }
+    ensures written { WhereTold N.digest_of objects.now out.old.items told.old
+        (kind_named tree.now objects.now ≡ Some kind.Tree → OnOk result (out.new.items
+        ≡ out.old.items ++ items_text (file_items objects.now tree.now))) }
+    ensures in_mind { WhereTold N.digest_of objects.now out.old.items told.old
+        (OnOk result (AreTold objects.now out.new.items told.new)) }
     ensures kept { take (length out.old.items) out.new.items ≡ out.old.items }
 {
     append_line(b"deleteall", b"", out)?;

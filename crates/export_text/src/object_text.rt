@@ -1,15 +1,14 @@
 //! Objects in a stream, each with its mark.
 
 ghost use Rattle.std.specs.Prelude.{◌≡◌, ◌++◌, ◌<◌, ℕ, All, length, take, OnOk};
-ghost use Rattle.git_model.specs.GoodRepository.{AreObjects, IsValid, StandsBefore};
+ghost use Rattle.git_model.specs.GoodRepository.{IsValid, StandsBefore};
 ghost use Rattle.git_model.specs.References.{object_at, references_of};
 ghost use Rattle.git_model.specs.RefStore.{RefStore};
-ghost use Rattle.git_model.specs.Repository.{Repository};
 ghost use Rattle.export_text.specs.ItemText.{items_text};
 ghost use Rattle.export_text.specs.Export.{object_items};
 ghost use Rattle.export_text.specs.ExportItems.{blob_items, items_of, items_of_object};
-ghost use Rattle.export_text.specs.Lines.{AreTold};
-ghost use Rattle.export_text.specs.Marking.{reached_flags};
+ghost use Rattle.export_text.specs.Lines.{AreTold, WhereTold};
+ghost use Rattle.export_text.specs.Marking.{WhereReached};
 
 use crate::commit_text::append_commit;
 use crate::item_text::{append_data, append_line};
@@ -45,15 +44,13 @@ fn append_content<N: Naming>(
     told: &mut Directories,
     out: &mut Vec<u8>,
 ) -> Result<(), Memory>
-    ensures written { (place : ℕ) → AreObjects N.digest_of objects.now
-        → AreTold objects.now out.old.items told.old
-        → IsValid objects.now kind contents.now
+    ensures written { (place : ℕ) → WhereTold N.digest_of objects.now out.old.items told.old
+        (IsValid objects.now kind contents.now
         → All (StandsBefore objects.now place) (references_of kind contents.now)
         → OnOk result (out.new.items
-        ≡ out.old.items ++ items_text (items_of objects.now id kind contents.now)) }
-    ensures in_mind { AreObjects N.digest_of objects.now
-        → AreTold objects.now out.old.items told.old
-        → OnOk result (AreTold objects.now out.new.items told.new) }
+        ≡ out.old.items ++ items_text (items_of objects.now id kind contents.now))) }
+    ensures in_mind { WhereTold N.digest_of objects.now out.old.items told.old
+        (OnOk result (AreTold objects.now out.new.items told.new)) }
     ensures kept { take (length out.old.items) out.new.items ≡ out.old.items }
 {
     match kind {
@@ -72,14 +69,12 @@ fn append_object<N: Naming>(
     told: &mut Directories,
     out: &mut Vec<u8>,
 ) -> Result<(), Memory>
-    ensures written { AreObjects N.digest_of objects.now
-        → AreTold objects.now out.old.items told.old
-        → place < length objects.now
+    ensures written { WhereTold N.digest_of objects.now out.old.items told.old
+        (place < length objects.now
         → OnOk result (out.new.items ≡ out.old.items
-        ++ items_text (items_of_object objects.now (object_at place objects.now))) }
-    ensures in_mind { AreObjects N.digest_of objects.now
-        → AreTold objects.now out.old.items told.old
-        → OnOk result (AreTold objects.now out.new.items told.new) }
+        ++ items_text (items_of_object objects.now (object_at place objects.now)))) }
+    ensures in_mind { WhereTold N.digest_of objects.now out.old.items told.old
+        (OnOk result (AreTold objects.now out.new.items told.new)) }
     ensures kept { take (length out.old.items) out.new.items ≡ out.old.items }
 {
     let Some(found) = objects.at(place) else {
@@ -96,10 +91,8 @@ pub fn append_objects<N: Naming>(
     reached: &[bool],
     out: &mut Vec<u8>,
 ) -> Result<(), Memory>
-    ensures written { (refs : RefStore)
-        → let r : Repository = record { objects = objects.now; refs = refs } in
-        AreObjects N.digest_of objects.now → reached.now ≡ reached_flags r
-        → OnOk result (out.new.items ≡ out.old.items ++ items_text (object_items r)) }
+    ensures written { (refs : RefStore) → WhereReached N.digest_of objects.now refs reached.now
+        (λ r. OnOk result (out.new.items ≡ out.old.items ++ items_text (object_items r))) }
     ensures kept { take (length out.old.items) out.new.items ≡ out.old.items }
 {
     let mut told = Directories::among(alloc, objects.len())?;

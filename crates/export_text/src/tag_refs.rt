@@ -6,11 +6,11 @@ ghost use Rattle.git_model.specs.GoodRepository.{AreObjects, IsTag, IsValid};
 ghost use Rattle.git_model.specs.References.{object_at};
 ghost use Rattle.git_model.specs.Content.{content_from};
 ghost use Rattle.git_model.specs.RefStore.{RefStore};
-ghost use Rattle.git_model.specs.Repository.{Object, Repository};
+ghost use Rattle.git_model.specs.Repository.{Object};
 ghost use Rattle.git_names.specs.StoredName.{NamesRef};
 ghost use Rattle.git_model.specs.Tag.{Tag};
 ghost use Rattle.git_model.specs.TagReading.{tag_read};
-ghost use Rattle.export_text.specs.Marking.{reached_flags};
+ghost use Rattle.export_text.specs.Marking.{WhereReached};
 ghost use Rattle.export_text.specs.Reached.{is_tag, reached_tags, ref_of_tag, tag_ref, tag_refs};
 
 use git_names::{RefName, RefNameFault};
@@ -85,10 +85,8 @@ fn refs_of_tags<N: Naming>(
     objects: &Objects<'_, N>,
     reached: &[bool],
 ) -> Result<Vec<RefName>, Memory>
-    ensures { (refs : RefStore)
-        → let r : Repository = record { objects = objects.now; refs = refs } in
-        AreObjects N.digest_of objects.now → reached.now ≡ reached_flags r
-        → IfOk result (λ names. names.items ≡ map ref_of_tag (reached_tags r)) }
+    ensures { (refs : RefStore) → WhereReached N.digest_of objects.now refs reached.now
+        (λ r. IfOk result (λ names. names.items ≡ map ref_of_tag (reached_tags r))) }
 {
     let mut names = Vec::new(alloc);
     for (place, is_reached) in reached.iter().enumerate() {
@@ -108,10 +106,8 @@ pub fn tag_refs<N: Naming>(
     objects: &Objects<'_, N>,
     reached: &[bool],
 ) -> Result<Vec<RefName>, Memory>
-    ensures { (refs : RefStore)
-        → let r : Repository = record { objects = objects.now; refs = refs } in
-        AreObjects N.digest_of objects.now → reached.now ≡ reached_flags r
-        → IfOk result (λ names. names.items ≡ tag_refs r) }
+    ensures { (refs : RefStore) → WhereReached N.digest_of objects.now refs reached.now
+        (λ r. IfOk result (λ names. names.items ≡ tag_refs r)) }
 {
     let mut names = refs_of_tags(alloc, objects, reached)?;
     names.sort_unstable();

@@ -1,15 +1,15 @@
 -- A frame part by part, whatever its kinds are: which part is wrong, and what is missing of a frame that is not whole.
-use Rattle.std.proofs.Common.{◌≡◌, ◌≢◌, ℕ, ◌+◌, ◌^◌, ◌<◌, ◌≤◌, Bool, true, false, cond, ltb, is_some, true≢false, List, [], ◌∷◌, ◌++◌, length, replicate, Option, None, Some, IfSome, Ok, Err, refl, sym, ap, subst, ◌∙◌, append_assoc, append-nil, arith}
+use Rattle.std.proofs.Common.{◌≡◌, ◌≢◌, ℕ, ◌+◌, ◌^◌, ◌<◌, ◌≤◌, Bool, true, false, cond, eqb, ltb, is_some, true≢false, List, [], ◌∷◌, ◌++◌, length, replicate, Option, None, Some, IfSome, Ok, Err, refl, sym, ap, subst, ◌∙◌, append_assoc, append-nil, arith}
 use Rattle.std.specs.Int.{w16, w32, to_be_bytes}
 use Rattle.std.specs.List.{find}
 use Rattle.std.specs.Option.{unwrap_or}
-use Rattle.std.proofs.lemmas.Bool.{lt-ltb, le-ltb, ltb-true, ltb-false}
+use Rattle.std.proofs.lemmas.Bool.{eqb-true, lt-ltb, le-ltb, ltb-true, ltb-false}
 use Rattle.std.proofs.lemmas.List.{length-append, length-replicate}
 use Rattle.byte_devices.specs.Device.{Device}
 use Rattle.service_steps.specs.declared.frame_fault.FrameFault.{FrameFault}
 use Rattle.service_steps.specs.declared.frame_fault.FrameFault.TheVariants as fault
-use Rattle.service_steps.specs.Frames.{Frame, Fits, sized, frame_text}
-use Rattle.service_steps.specs.Reading.{HasReadWell, HasReadAll, HasFailed, IsUnfinishedPart, ReadsSized}
+use Rattle.service_steps.specs.Frames.{Frame, Fits, sized, frame_text, IsBadBy, IsUnfinishedBy}
+use Rattle.service_steps.specs.Reading.{HasReadWell, IsUnfinishedPart, ReadsKindBy, ReadsNone, ReadsSized}
 use Rattle.byte_devices.proofs.ReadLemmas.{well_more, all_more, failed_more}
 
 -- ---- which part is wrong
@@ -69,27 +69,20 @@ hides_name names bodies good n size limited lacks =
 
 -- ---- a frame that is not whole
 
--- The beginning of a frame of which something is missing, and no wrong part shows yet.
-pub record IsBegun (wrong_at : Frame → Option ℕ) (bytes : List ℕ) : Type 0 where
-  pub frame : Frame
-  pub missing : List ℕ
-  pub fits : Fits frame
-  pub parts : frame_text frame ≡ bytes ++ missing
-  pub not_yet : IfSome (wrong_at frame) (λ shown. length bytes < shown)
-  pub lacks : missing ≢ []
-
 some_more : (xs ys : List ℕ) → xs ≢ [] → xs ++ ys ≢ []
 some_more [] ys some none = some refl
 some_more (x ∷ xs) ys some none = let e : length (x ∷ xs ++ ys) ≡ 0 = ap length none in omega (arith, e)
 
 -- Before its first byte.
-pub none_begun : (wrong_at : Frame → Option ℕ) → wrong_at (record { kind = 1; tenant = []; body = [] }) ≡ None → IsBegun wrong_at []
+pub none_begun : (wrong_at : Frame → Option ℕ) → wrong_at (record { kind = 1; tenant = []; body = [] }) ≡ None → IsUnfinishedBy wrong_at []
 none_begun wrong_at good = record {
   frame = record { kind = 1; tenant = []; body = [] };
   missing = frame_text (record { kind = 1; tenant = []; body = [] });
-  fits = record { kind = omega arith; tenant = omega arith; body = omega arith };
-  parts = refl;
-  not_yet = subst (λ (at : Option ℕ). hides at 0) (sym good) tt;
+  begins = record {
+    fits = record { kind = omega arith; tenant = omega arith; body = omega arith };
+    parts = refl;
+    not_yet = subst (λ (at : Option ℕ). hides at 0) (sym good) tt;
+  };
   lacks = some_more (1 ∷ []) (sized w16 [] ++ sized w32 []) (λ none. let e : length {A = ℕ} (1 ∷ []) ≡ 0 = ap length none in omega (arith, e));
 }
 
@@ -105,14 +98,16 @@ short_name kind room bytes missing parts =
 
 -- Inside its name.
 name_begun : {wrong_at : Frame → Option ℕ} {names bodies : ℕ} {good : List ℕ → Bool} (kind : ℕ) (bytes : List ℕ) → Judges wrong_at kind names bodies good
-    → IsUnfinishedPart w16 names bytes → IsBegun wrong_at (kind ∷ bytes)
+    → IsUnfinishedPart w16 names bytes → IsUnfinishedBy wrong_at (kind ∷ bytes)
 name_begun {wrong_at} {names} {bodies} {good} kind bytes j p = record {
   frame = record { kind = kind; tenant = p.room; body = [] };
   missing = p.missing ++ sized w32 [];
-  fits = record { kind = j.small; tenant = p.fits; body = omega arith };
-  parts = ap (λ (l : List ℕ). kind ∷ l ++ sized w32 []) p.parts ∙ ap (λ (l : List ℕ). kind ∷ l) (append_assoc bytes p.missing (sized w32 []));
-  not_yet = subst (λ (at : Option ℕ). hides at (length (kind ∷ bytes))) (sym (j.is p.room []))
-      (hides_name names bodies good (length p.room) (length (kind ∷ bytes)) (λ there. p.limited (omega (arith, there))) (short_name kind p.room bytes p.missing p.parts));
+  begins = record {
+    fits = record { kind = j.small; tenant = p.fits; body = omega arith };
+    parts = ap (λ (l : List ℕ). kind ∷ l ++ sized w32 []) p.parts ∙ ap (λ (l : List ℕ). kind ∷ l) (append_assoc bytes p.missing (sized w32 []));
+    not_yet = subst (λ (at : Option ℕ). hides at (length (kind ∷ bytes))) (sym (j.is p.room []))
+        (hides_name names bodies good (length p.room) (length (kind ∷ bytes)) (λ there. p.limited (omega (arith, there))) (short_name kind p.room bytes p.missing p.parts));
+  };
   lacks = some_more p.missing (sized w32 []) p.lacks;
 }
 
@@ -131,32 +126,26 @@ shorter tenant room bytes missing parts lacks =
 
 -- Inside its body.
 body_begun : {wrong_at : Frame → Option ℕ} {names bodies : ℕ} {good : List ℕ → Bool} (kind : ℕ) (tenant bytes : List ℕ) → Judges wrong_at kind names bodies good
-    → length tenant ≤ names → length tenant < 2 ^ 16 → IsUnfinishedPart w32 bodies bytes → IsBegun wrong_at (kind ∷ sized w16 tenant ++ bytes)
+    → length tenant ≤ names → length tenant < 2 ^ 16 → IsUnfinishedPart w32 bodies bytes → IsUnfinishedBy wrong_at (kind ∷ sized w16 tenant ++ bytes)
 body_begun {wrong_at} {names} {bodies} {good} kind tenant bytes j within fits p = record {
   frame = record { kind = kind; tenant = tenant; body = p.room };
   missing = p.missing;
-  fits = record { kind = j.small; tenant = fits; body = p.fits };
-  parts = ap (λ (l : List ℕ). kind ∷ sized w16 tenant ++ l) p.parts
-      ∙ ap (λ (l : List ℕ). kind ∷ l) (sym (append_assoc (sized w16 tenant) bytes p.missing));
-  not_yet = subst (λ (at : Option ℕ). hides at (length (kind ∷ sized w16 tenant ++ bytes))) (sym (j.is tenant p.room))
-      (hides_body names bodies good (length tenant) (length (kind ∷ sized w16 tenant ++ bytes)) p.room within
-      (λ there. p.limited (let a = sized-length tenant bytes in omega (arith, a, there)))
-      (let s = shorter tenant p.room bytes p.missing p.parts p.lacks in omega (arith, s)));
+  begins = record {
+    fits = record { kind = j.small; tenant = fits; body = p.fits };
+    parts = ap (λ (l : List ℕ). kind ∷ sized w16 tenant ++ l) p.parts
+        ∙ ap (λ (l : List ℕ). kind ∷ l) (sym (append_assoc (sized w16 tenant) bytes p.missing));
+    not_yet = subst (λ (at : Option ℕ). hides at (length (kind ∷ sized w16 tenant ++ bytes))) (sym (j.is tenant p.room))
+        (hides_body names bodies good (length tenant) (length (kind ∷ sized w16 tenant ++ bytes)) p.room within
+        (λ there. p.limited (let a = sized-length tenant bytes in omega (arith, a, there)))
+        (let s = shorter tenant p.room bytes p.missing p.parts p.lacks in omega (arith, s)));
+  };
   lacks = p.lacks;
 }
 
 -- ---- a bad frame
 
--- A bad frame, up to the byte that shows that it is bad.
-pub record IsShownBad (wrong_at : Frame → Option ℕ) (bytes : List ℕ) : Type 0 where
-  pub frame : Frame
-  pub missing : List ℕ
-  pub fits : Fits frame
-  pub parts : frame_text frame ≡ bytes ++ missing
-  pub shows : wrong_at frame ≡ Some (length bytes)
-
-pub bad_kind : (wrong_at : Frame → Option ℕ) (kind : ℕ) → kind < 256 → wrong_at (record { kind = kind; tenant = []; body = [] }) ≡ Some 1
-    → IsShownBad wrong_at (kind ∷ [])
+bad_kind : (wrong_at : Frame → Option ℕ) (kind : ℕ) → kind < 256 → wrong_at (record { kind = kind; tenant = []; body = [] }) ≡ Some 1
+    → IsBadBy wrong_at (kind ∷ [])
 bad_kind wrong_at kind small is = record {
   frame = record { kind = kind; tenant = []; body = [] };
   missing = sized w16 [] ++ sized w32 [];
@@ -166,7 +155,7 @@ bad_kind wrong_at kind small is = record {
 }
 
 bad_name : {wrong_at : Frame → Option ℕ} {names bodies : ℕ} {good : List ℕ → Bool} (kind n : ℕ) → Judges wrong_at kind names bodies good → names < n
-    → n < 2 ^ 16 → IsShownBad wrong_at (kind ∷ to_be_bytes w16 n)
+    → n < 2 ^ 16 → IsBadBy wrong_at (kind ∷ to_be_bytes w16 n)
 bad_name {wrong_at} {names} {bodies} {good} kind n j over fits =
     let room : List ℕ = replicate n 0 in
     let size : length room ≡ n = length-replicate n 0 in
@@ -180,7 +169,7 @@ bad_name {wrong_at} {names} {bodies} {good} kind n j over fits =
 
 bad_length : {wrong_at : Frame → Option ℕ} {names bodies : ℕ} {good : List ℕ → Bool} (kind : ℕ) (tenant : List ℕ) (n : ℕ)
     → Judges wrong_at kind names bodies good → length tenant ≤ names → length tenant < 2 ^ 16 → bodies < n → n < 2 ^ 32
-    → IsShownBad wrong_at (kind ∷ sized w16 tenant ++ to_be_bytes w32 n)
+    → IsBadBy wrong_at (kind ∷ sized w16 tenant ++ to_be_bytes w32 n)
 bad_length {wrong_at} {names} {bodies} {good} kind tenant n j within short over fits =
     let room : List ℕ = replicate n 0 in
     let size : length room ≡ n = length-replicate n 0 in
@@ -196,14 +185,7 @@ bad_length {wrong_at} {names} {bodies} {good} kind tenant n j within short over 
 
 -- ---- what was read
 
--- What was read of a frame, for each fault.
-abbrev pub ReadsNone : (Frame → Option ℕ) → Device → FrameFault → Device → Type 0
-ReadsNone wrong_at old fault.BadFrame new = (bytes : List ℕ) × IsShownBad wrong_at bytes × HasReadWell old new bytes
-ReadsNone wrong_at old fault.CutOff new = (bytes : List ℕ) × (IsBegun wrong_at bytes × (bytes ≢ [])) × HasReadAll old new bytes
-ReadsNone wrong_at old fault.Device new = (bytes : List ℕ) × IsBegun wrong_at bytes × HasFailed old new bytes
-ReadsNone wrong_at old fault.Memory new = (bytes : List ℕ) × IsBegun wrong_at bytes × HasReadWell old new bytes
-
-cut_off : {wrong_at : Frame → Option ℕ} (kind : ℕ) (bytes : List ℕ) → IsBegun wrong_at (kind ∷ bytes) → IsBegun wrong_at (kind ∷ bytes) × (kind ∷ bytes ≢ [])
+cut_off : {wrong_at : Frame → Option ℕ} (kind : ℕ) (bytes : List ℕ) → IsUnfinishedBy wrong_at (kind ∷ bytes) → IsUnfinishedBy wrong_at (kind ∷ bytes) × (kind ∷ bytes ≢ [])
 cut_off kind bytes u = (u, λ none. let e : length (kind ∷ bytes) ≡ 0 = ap length none in omega (arith, e))
 
 pub stops_in_name : {wrong_at : Frame → Option ℕ} {names bodies : ℕ} {good : List ℕ → Bool} (kind : ℕ) (a b c : Device) (e : FrameFault) (room : List ℕ)
@@ -275,10 +257,54 @@ whole_read {wrong_at} {names} {bodies} {good} kind a b c tenant room f j h r wel
       well_more a b c (kind ∷ sized w16 tenant) (sized w32 room) h.read r.2,
     )
 
-pub found_passes : {X : Type 0} (p : X → Bool) (all : List X) (k : X) → find p all ≡ Some k → p k ≡ true
+-- ---- kinds
+
+found_passes : {X : Type 0} (p : X → Bool) (all : List X) (k : X) → find p all ≡ Some k → p k ≡ true
 found_passes {X} p [] k is = absurd (true≢false (sym (ap (λ (o : Option X). is_some o) is)))
 found_passes {X} p (x ∷ all) k is = by (p x) refl is (found_passes p all k)
   where
     by : (b : Bool) → p x ≡ b → cond b (Some x) (find p all) ≡ Some k → (find p all ≡ Some k → p k ≡ true) → p k ≡ true
     by true e found rest = subst (λ (y : X). p y ≡ true) (ap (λ (o : Option X). unwrap_or o x) found) e
     by false e found rest = rest found
+
+-- A kind that is found by a number has it.
+pub number_of : {K : Type 0} (number : K → ℕ) (all : List K) (byte : ℕ) (k : K) → find (λ (x : K). eqb (number x) byte) all ≡ Some k → byte ≡ number k
+number_of {K} number all byte k is = sym (eqb-true (number k) byte (found_passes (λ (x : K). eqb (number x) byte) all k is))
+
+-- What is known of the frames of some kinds.
+pub record Kinds {K : Type 0} (wrong_at : Frame → Option ℕ) (kind_of : ℕ → Option K) (number names bodies : K → ℕ) (good : K → List ℕ → Bool) : Type 0 where
+  pub judges : (k : K) → Judges wrong_at (number k) (names k) (bodies k) (good k)
+  pub numbered : (byte : ℕ) (k : K) → kind_of byte ≡ Some k → byte ≡ number k
+  pub unknown : (byte : ℕ) → kind_of byte ≡ None → wrong_at (record { kind = byte; tenant = []; body = [] }) ≡ Some 1
+  pub none : IsUnfinishedBy wrong_at []
+
+pub kind_fails : {K : Type 0} {wrong_at : Frame → Option ℕ} {kind_of : ℕ → Option K} {number names bodies : K → ℕ} {good : K → List ℕ → Bool} → Kinds wrong_at kind_of number names bodies good
+    → (a b : Device) (e : FrameFault) → ReadsKindBy kind_of a (Err e) b → ReadsNone wrong_at a e b
+kind_fails {K} {wrong_at} kinds a b fault.BadFrame r = (r.0 ∷ [], bad_kind wrong_at r.0 r.1 (kinds.unknown r.0 r.2), r.3)
+kind_fails {K} {wrong_at} kinds a b fault.CutOff r = absurd r
+kind_fails {K} {wrong_at} kinds a b fault.Device r = ([], kinds.none, r)
+kind_fails {K} {wrong_at} kinds a b fault.Memory r = absurd r
+
+pub knows : {K : Type 0} {wrong_at : Frame → Option ℕ} {kind_of : ℕ → Option K} {number names bodies : K → ℕ} {good : K → List ℕ → Bool} → Kinds wrong_at kind_of number names bodies good
+    → (a b : Device) (k : K) (o : Option K) → o ≡ Some k → ReadsKindBy kind_of a (Ok o) b → HasReadWell a b (number k ∷ [])
+knows {K} {wrong_at} {kind_of} kinds a b k o is r =
+    let known : ReadsKindBy kind_of a (Ok (Some k)) b = subst (λ (p : Option K). ReadsKindBy kind_of a (Ok p) b) is r in
+    subst (λ (n : ℕ). HasReadWell a b (n ∷ [])) (kinds.numbered known.0 k known.2) known.3
+
+pub name_fails : {K : Type 0} {wrong_at : Frame → Option ℕ} {kind_of : ℕ → Option K} {number names bodies : K → ℕ} {good : K → List ℕ → Bool} → Kinds wrong_at kind_of number names bodies good
+    → (a b c : Device) (k : K) (e : FrameFault) (room : List ℕ) (n : ℕ) → n ≡ names k → HasReadWell a b (number k ∷ [])
+    → ReadsSized w16 n b (Err e) c room → ReadsNone wrong_at a e c
+name_fails {K} {wrong_at} {kind_of} {number} kinds a b c k e room n is h r =
+    stops_in_name (number k) a b c e room (kinds.judges k) h (subst (λ (m : ℕ). ReadsSized w16 m b (Err e) c room) is r)
+
+pub named : {K : Type 0} {wrong_at : Frame → Option ℕ} {kind_of : ℕ → Option K} {number names bodies : K → ℕ} {good : K → List ℕ → Bool} → Kinds wrong_at kind_of number names bodies good
+    → (a b c : Device) (k : K) (tenant : List ℕ) (n : ℕ) → n ≡ names k → HasReadWell a b (number k ∷ [])
+    → ReadsSized w16 n b (Ok tt) c tenant → IsNamed (number k) (names k) a c tenant
+named {K} {wrong_at} {kind_of} {number} {names} kinds a b c k tenant n is h r =
+    name_read (number k) (names k) a b c tenant h (subst (λ (m : ℕ). ReadsSized w16 m b (Ok tt) c tenant) is r)
+
+pub body_fails : {K : Type 0} {wrong_at : Frame → Option ℕ} {kind_of : ℕ → Option K} {number names bodies : K → ℕ} {good : K → List ℕ → Bool} → Kinds wrong_at kind_of number names bodies good
+    → (a b c : Device) (k : K) (tenant : List ℕ) (e : FrameFault) (room : List ℕ) (n : ℕ) → n ≡ bodies k
+    → IsNamed (number k) (names k) a b tenant → ReadsSized w32 n b (Err e) c room → ReadsNone wrong_at a e c
+body_fails {K} {wrong_at} {kind_of} {number} kinds a b c k tenant e room n is h r =
+    stops_in_body (number k) a b c tenant e room (kinds.judges k) h (subst (λ (m : ℕ). ReadsSized w32 m b (Err e) c room) is r)

@@ -1,8 +1,9 @@
 -- Bytes after their length: what a part of them lacks, and what was read of them.
-use Rattle.std.proofs.Common.{◌≡◌, ◌≢◌, ℕ, zero, suc, ◌-◌, ◌<◌, ◌≤◌, List, [], ◌∷◌, ◌++◌, length, replicate, Result, Ok, Err, refl, sym, ap, subst, ◌∙◌, append-nil, append_assoc, arith}
+use Rattle.std.proofs.Common.{◌≡◌, ◌≢◌, ℕ, zero, suc, ◌-◌, ◌<◌, ◌≤◌, List, [], ◌∷◌, ◌++◌, length, replicate, Result, Ok, Err, IsErrAnd, refl, sym, ap, subst, ◌∙◌, append-nil, append_assoc, arith}
 use Rattle.std.specs.Int.{Width, w16, w32, byte_len, to_be_bytes, from_be_bytes}
 use Rattle.std.proofs.lemmas.List.{length-append, length-replicate}
 use Rattle.std.proofs.lemmas.Nat.{be_bytes_2, be_bytes_4}
+use Rattle.std.proofs.lemmas.Result.{err_from_is_err_and}
 use Rattle.byte_devices.specs.Device.{Device}
 use Rattle.service_steps.specs.declared.frame_fault.FrameFault.{FrameFault}
 use Rattle.service_steps.specs.declared.frame_fault.FrameFault.TheVariants as fault
@@ -132,9 +133,19 @@ sized_more width limit n a b c (Err fault.Memory) room fits first later = (
 )
 
 -- No length was read.
-pub number_fails : (width : Width) → HasNumbers width → (limit : ℕ) (a b : Device) (e : FrameFault) (room : List ℕ)
+number_fails : (width : Width) → HasNumbers width → (limit : ℕ) (a b : Device) (e : FrameFault) (room : List ℕ)
     → ReadsNumber width a (Err e) b → ReadsSized width limit a (Err e) b room
 number_fails width numbers limit a b fault.BadFrame room none = absurd none
 number_fails width numbers limit a b fault.CutOff room r = (r.0, length_short width numbers limit r.0 r.1, r.2)
 number_fails width numbers limit a b fault.Device room r = (r.0, length_short width numbers limit r.0 r.1, r.2)
 number_fails width numbers limit a b fault.Memory room none = absurd none
+
+pub number_stops : (width : Width) → HasNumbers width → (limit : ℕ) (a b : Device) (r : Result Unit FrameFault) (e : FrameFault) (room : List ℕ)
+    → IsErrAnd r (λ f. f ≡ e) → ReadsNumber width a (Err e) b → ReadsSized width limit a r b room
+number_stops width numbers limit a b r e room is p =
+    let q = err_from_is_err_and r is in rw (q.1, q.2) (number_fails width numbers limit a b e room p)
+
+-- The bytes of a number were read.
+pub number_read : (width : Width) (a b : Device) (room : List ℕ) (n : ℕ) → n < bound width → to_be_bytes width n ≡ room → HasReadWell a b room
+    → ReadsNumber width a (Ok n) b
+number_read width a b room n small is had = (small, subst (λ (l : List ℕ). HasReadWell a b l) (sym is) had)

@@ -77,34 +77,48 @@ pub record Fits (f : Frame) : Type 0 where
   pub tenant : length f.tenant < 2 ^ 16
   pub body : length f.body < 2 ^ 32
 
--- A good frame has no wrong part.
-abbrev pub IsGood : Frame → Type 0
-IsGood f = Fits f × (wrong_at f ≡ None)
+-- A good frame has no wrong part. `wrong` says how many bytes of a frame show that a part is wrong,
+-- if one is.
+abbrev pub IsGoodBy : (Frame → Option ℕ) → Frame → Type 0
+IsGoodBy wrong f = Fits f × (wrong f ≡ None)
 
 -- The bytes are the beginning of a frame, good or bad, and `missing` is the rest of it. No wrong
 -- part shows yet.
-pub record Begins (f : Frame) (bytes missing : List ℕ) : Type 0 where
+pub record BeginsBy (wrong : Frame → Option ℕ) (f : Frame) (bytes missing : List ℕ) : Type 0 where
   pub fits : Fits f
   pub parts : frame_text f ≡ bytes ++ missing
-  pub not_yet : IfSome (wrong_at f) (λ shown. length bytes < shown)
+  pub not_yet : IfSome (wrong f) (λ shown. length bytes < shown)
 
 -- The beginning of a frame of which something is missing. It is cut off if it has a byte.
-pub record IsUnfinished (bytes : List ℕ) : Type 0 where
+pub record IsUnfinishedBy (wrong : Frame → Option ℕ) (bytes : List ℕ) : Type 0 where
   pub frame : Frame
   pub missing : List ℕ
-  pub begins : Begins frame bytes missing
+  pub begins : BeginsBy wrong frame bytes missing
   pub lacks : missing ≢ []
 
-abbrev pub IsCutOff : List ℕ → Type 0
-IsCutOff bytes = IsUnfinished bytes × (bytes ≢ [])
+abbrev pub IsCutOffBy : (Frame → Option ℕ) → List ℕ → Type 0
+IsCutOffBy wrong bytes = IsUnfinishedBy wrong bytes × (bytes ≢ [])
 
 -- A bad frame, up to the byte that shows that it is bad.
-pub record IsBad (bytes : List ℕ) : Type 0 where
+pub record IsBadBy (wrong : Frame → Option ℕ) (bytes : List ℕ) : Type 0 where
   pub frame : Frame
   pub missing : List ℕ
   pub fits : Fits frame
   pub parts : frame_text frame ≡ bytes ++ missing
-  pub shows : wrong_at frame ≡ Some (length bytes)
+  pub shows : wrong frame ≡ Some (length bytes)
+
+-- The same of the frames of steps.
+abbrev pub IsGood : Frame → Type 0
+IsGood f = IsGoodBy wrong_at f
+
+abbrev pub IsUnfinished : List ℕ → Type 0
+IsUnfinished bytes = IsUnfinishedBy wrong_at bytes
+
+abbrev pub IsCutOff : List ℕ → Type 0
+IsCutOff bytes = IsCutOffBy wrong_at bytes
+
+abbrev pub IsBad : List ℕ → Type 0
+IsBad bytes = IsBadBy wrong_at bytes
 
 abbrev pub framed : Kind → List ℕ → List ℕ → Frame
 framed k tenant body = record { kind = kind_number k; tenant = tenant; body = body }

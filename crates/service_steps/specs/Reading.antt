@@ -7,32 +7,47 @@ use Rattle.service_steps.specs.declared.frame_fault.FrameFault.{FrameFault}
 use Rattle.service_steps.specs.declared.frame_fault.FrameFault.TheVariants as fault
 use Rattle.service_steps.specs.declared.kind.Kind.{Kind}
 use Rattle.service_steps.specs.declared.step.Step.{Step}
-use Rattle.service_steps.specs.Frames.{sized, kind_of, frame_of, step_text, IsGood, IsUnfinished, IsCutOff, IsBad}
+use Rattle.service_steps.specs.Frames.{Frame, sized, kind_of, frame_of, frame_text, wrong_at, IsGoodBy, IsUnfinishedBy, IsCutOffBy, IsBadBy}
 
--- For a step, exactly its frame was read. For `None`, nothing was read and the reader was at its
--- end. For a fault, a bad frame was read up to the byte that shows it, or an unfinished frame.
+-- No frame was read, for this fault: a bad frame up to the byte that shows it, or an unfinished one.
+abbrev pub ReadsNone : (Frame → Option ℕ) → Device → FrameFault → Device → Type 0
+ReadsNone wrong old fault.BadFrame new =
+    (bytes : List ℕ) × IsBadBy wrong bytes × HasReadWell old new bytes
+ReadsNone wrong old fault.CutOff new =
+    (bytes : List ℕ) × IsCutOffBy wrong bytes × HasReadAll old new bytes
+ReadsNone wrong old fault.Device new =
+    (bytes : List ℕ) × IsUnfinishedBy wrong bytes × HasFailed old new bytes
+ReadsNone wrong old fault.Memory new =
+    (bytes : List ℕ) × IsUnfinishedBy wrong bytes × HasReadWell old new bytes
+
+-- For a value, exactly its frame was read. For `None`, nothing was read and the reader was at its
+-- end.
+abbrev pub ReadsFrame : {X : Type 0} → (Frame → Option ℕ) → (X → Frame) → Device
+    → Result (Option X) FrameFault → Device → Type 0
+ReadsFrame wrong frame old (Ok (Some x)) new =
+    IsGoodBy wrong (frame x) × HasReadWell old new (frame_text (frame x))
+ReadsFrame wrong frame old (Ok None) new = HasReadAll old new []
+ReadsFrame wrong frame old (Err e) new = ReadsNone wrong old e new
+
 abbrev pub ReadsStep : Device → Result (Option Step) FrameFault → Device → Type 0
-ReadsStep old (Ok (Some s)) new = IsGood (frame_of s) × HasReadWell old new (step_text s)
-ReadsStep old (Ok None) new = HasReadAll old new []
-ReadsStep old (Err fault.BadFrame) new = (bytes : List ℕ) × IsBad bytes × HasReadWell old new bytes
-ReadsStep old (Err fault.CutOff) new = (bytes : List ℕ) × IsCutOff bytes × HasReadAll old new bytes
-ReadsStep old (Err fault.Device) new = (bytes : List ℕ) × IsUnfinished bytes
-    × HasFailed old new bytes
-ReadsStep old (Err fault.Memory) new = (bytes : List ℕ) × IsUnfinished bytes
-    × HasReadWell old new bytes
+ReadsStep old r new = ReadsFrame wrong_at frame_of old r new
 
 -- ---- parts
 
--- The kind of a frame was read.
-abbrev pub ReadsKind : Device → Result (Option Kind) FrameFault → Device → Type 0
-ReadsKind old (Ok (Some k)) new =
+-- The kind of a frame was read, by its number.
+abbrev pub ReadsKindBy : {K : Type 0} → (ℕ → Option K) → Device → Result (Option K) FrameFault
+    → Device → Type 0
+ReadsKindBy kind_of old (Ok (Some k)) new =
     (byte : ℕ) × (byte < 256) × (kind_of byte ≡ Some k) × HasReadWell old new (byte ∷ [])
-ReadsKind old (Ok None) new = HasReadAll old new []
-ReadsKind old (Err fault.BadFrame) new =
+ReadsKindBy kind_of old (Ok None) new = HasReadAll old new []
+ReadsKindBy kind_of old (Err fault.BadFrame) new =
     (byte : ℕ) × (byte < 256) × (kind_of byte ≡ None) × HasReadWell old new (byte ∷ [])
-ReadsKind old (Err fault.Device) new = HasFailed old new []
-ReadsKind old (Err fault.CutOff) new = ⊥
-ReadsKind old (Err fault.Memory) new = ⊥
+ReadsKindBy kind_of old (Err fault.Device) new = HasFailed old new []
+ReadsKindBy kind_of old (Err fault.CutOff) new = ⊥
+ReadsKindBy kind_of old (Err fault.Memory) new = ⊥
+
+abbrev pub ReadsKind : Device → Result (Option Kind) FrameFault → Device → Type 0
+ReadsKind old r new = ReadsKindBy kind_of old r new
 
 -- The numbers of a width are below this one.
 abbrev pub bound : Width → ℕ

@@ -1,5 +1,5 @@
 -- Frames of requests: the steps of a service, and what its operator asks for, as bytes.
-use Rattle.std.specs.Prelude.{◌≡◌, ◌≢◌, ℕ, ◌+◌, ◌-◌, ◌/◌, ◌%◌, ◌<◌, ◌==◌, ◌&&◌, Bool, true, nat_lt, nat_le, if◌then◌else◌, List, [], ◌∷◌, ◌++◌, length, take, Option, None, Some, IfSome}
+use Rattle.std.specs.Prelude.{ℕ, ◌+◌, ◌-◌, ◌/◌, ◌%◌, ◌==◌, ◌&&◌, Bool, true, nat_lt, nat_le, if◌then◌else◌, List, [], ◌∷◌, ◌++◌, length, take, Option, None, Some}
 use Rattle.std.specs.Int.{w32, w64, from_be_bytes, to_be_bytes}
 use Rattle.std.specs.List.{find}
 use Rattle.service_steps.specs.declared.kind.Kind.TheVariants as kind
@@ -9,7 +9,7 @@ use Rattle.service_steps.specs.declared.request.Request.{Request}
 use Rattle.service_steps.specs.declared.request.Request.TheVariants as request
 use Rattle.service_steps.specs.declared.request_kind.RequestKind.{RequestKind}
 use Rattle.service_steps.specs.declared.request_kind.RequestKind.TheVariants as of
-use Rattle.service_steps.specs.Frames.{Frame, frame_text, frame_of, kind_number, tenant_limit, body_limit, largest_body, Fits}
+use Rattle.service_steps.specs.Frames.{Frame, frame_text, frame_of, kind_number, tenant_limit, body_limit, largest_body, IsGoodBy, IsUnfinishedBy, IsCutOffBy, IsBadBy}
 
 -- The kinds, by their numbers. A step has the number that it has in a frame of its own.
 abbrev pub request_number : RequestKind → ℕ
@@ -87,34 +87,18 @@ shown_wrong_request (Some k) name body = wrong_request_part k name body
 abbrev pub wrong_request_at : Frame → Option ℕ
 wrong_request_at f = shown_wrong_request (request_kind_of f.kind) (length f.tenant) f.body
 
--- A good frame of a request has no wrong part.
+-- Good, unfinished, cut off and bad frames of requests.
 abbrev pub IsGoodRequest : Frame → Type 0
-IsGoodRequest f = Fits f × (wrong_request_at f ≡ None)
+IsGoodRequest f = IsGoodBy wrong_request_at f
 
--- The bytes are the beginning of a frame, good or bad, and `missing` is the rest of it. No wrong
--- part shows yet.
-pub record BeginsRequest (f : Frame) (bytes missing : List ℕ) : Type 0 where
-  pub fits : Fits f
-  pub parts : frame_text f ≡ bytes ++ missing
-  pub not_yet : IfSome (wrong_request_at f) (λ shown. length bytes < shown)
-
--- The beginning of a frame of which something is missing. It is cut off if it has a byte.
-pub record IsUnfinishedRequest (bytes : List ℕ) : Type 0 where
-  pub frame : Frame
-  pub missing : List ℕ
-  pub begins : BeginsRequest frame bytes missing
-  pub lacks : missing ≢ []
+abbrev pub IsUnfinishedRequest : List ℕ → Type 0
+IsUnfinishedRequest bytes = IsUnfinishedBy wrong_request_at bytes
 
 abbrev pub IsCutOffRequest : List ℕ → Type 0
-IsCutOffRequest bytes = IsUnfinishedRequest bytes × (bytes ≢ [])
+IsCutOffRequest bytes = IsCutOffBy wrong_request_at bytes
 
--- A bad frame, up to the byte that shows that it is bad.
-pub record IsBadRequest (bytes : List ℕ) : Type 0 where
-  pub frame : Frame
-  pub missing : List ℕ
-  pub fits : Fits frame
-  pub parts : frame_text frame ≡ bytes ++ missing
-  pub shows : wrong_request_at frame ≡ Some (length bytes)
+abbrev pub IsBadRequest : List ℕ → Type 0
+IsBadRequest bytes = IsBadBy wrong_request_at bytes
 
 abbrev pub request_framed : RequestKind → List ℕ → List ℕ → Frame
 request_framed k name body = record { kind = request_number k; tenant = name; body = body }

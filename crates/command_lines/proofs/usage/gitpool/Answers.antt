@@ -20,15 +20,15 @@ returns c =
     (c.with-program-4.ensures (with_first 3) check_usage
     (c.with-program-3.ensures (with_first 2) ask_usage
     (c.with-program-2.ensures (with_first 1) import_usage
-    (c.with-program.ensures alone serve_usage c.program.ensures c.serve.ensures)
-    c.import.ensures)
+    (c.with-program.ensures alone serve_usage c.program.ensures c.for_pool.ensures)
+    c.for_tenant.ensures)
     c.ask.ensures)
-    c.check.ensures)
+    c.for_pool-2.ensures)
     c.copy.ensures)
-    c.remove.ensures)
-    c.compact.ensures)
-    c.sizes.ensures)
+    c.for_tenant-2.ensures)
+    c.for_tenant-3.ensures)
+    c.for_pool-3.ensures)
     c.extract.ensures)
     c.merge.ensures)
-    c.host.ensures)
+    c.for_pool-4.ensures)
     c.pack.ensures

@@ -26,28 +26,3 @@ returns-clause-written g c =
     c.in_ok-append_line.ensures.written c.in_ok-append_marked.ensures.written c.in_ok-append_line-2.ensures.written
     c.in_ok-append_line-3.ensures.written last))
     c.append_line_if.ensures.written
-
-pub returns-in_err-append_line-clause-kept : goal.returns-in_err-append_line-clause-kept
-returns-in_err-append_line-clause-kept g c =
-    kept_twice c.args.out.now.items c.append_fresh_branch.new.out.items c.append_line.new.out.items
-    c.in_ok-append_fresh_branch.ensures.kept c.in_err-append_line.ensures.kept
-
-pub returns-in_err-append_marked-clause-kept : goal.returns-in_err-append_marked-clause-kept
-returns-in_err-append_marked-clause-kept g c =
-    kept_thrice c.args.out.now.items c.append_fresh_branch.new.out.items c.append_line.new.out.items c.append_marked.new.out.items
-    c.in_ok-append_fresh_branch.ensures.kept c.in_ok-append_line.ensures.kept c.in_err-append_marked.ensures.kept
-
-pub returns-in_err-append_line-2-clause-kept : goal.returns-in_err-append_line-2-clause-kept
-returns-in_err-append_line-2-clause-kept g c =
-    kept_four c.args.out.now.items c.append_fresh_branch.new.out.items c.append_line.new.out.items c.append_marked.new.out.items c.append_line-2.new.out.items
-    c.in_ok-append_fresh_branch.ensures.kept c.in_ok-append_line.ensures.kept c.in_ok-append_marked.ensures.kept c.in_err-append_line-2.ensures.kept
-
-pub returns-in_err-append_line-3-clause-kept : goal.returns-in_err-append_line-3-clause-kept
-returns-in_err-append_line-3-clause-kept g c =
-    kept_five c.args.out.now.items c.append_fresh_branch.new.out.items c.append_line.new.out.items c.append_marked.new.out.items c.append_line-2.new.out.items c.append_line-3.new.out.items
-    c.in_ok-append_fresh_branch.ensures.kept c.in_ok-append_line.ensures.kept c.in_ok-append_marked.ensures.kept c.in_ok-append_line-2.ensures.kept c.in_err-append_line-3.ensures.kept
-
-pub returns-clause-kept : goal.returns-clause-kept
-returns-clause-kept g c =
-    kept_six c.args.out.now.items c.append_fresh_branch.new.out.items c.append_line.new.out.items c.append_marked.new.out.items c.append_line-2.new.out.items c.append_line-3.new.out.items c.append_line_if.new.out.items
-    c.in_ok-append_fresh_branch.ensures.kept c.in_ok-append_line.ensures.kept c.in_ok-append_marked.ensures.kept c.in_ok-append_line-2.ensures.kept c.in_ok-append_line-3.ensures.kept c.append_line_if.ensures.kept

@@ -1,5 +1,5 @@
-use Rattle.std.proofs.Common.{ℕ, ◌+◌, ◌++◌, List, length, map, take, refl, ap, ◌∙◌, codes}
-use Rattle.std.proofs.lemmas.List.{take_all, take_at}
+use Rattle.std.proofs.Common.{ℕ, ◌+◌, ◌++◌, List, map, take, ap, ◌∙◌, codes}
+use Rattle.std.proofs.lemmas.List.{take_all}
 use Rattle.git_objects.proofs.Kept.{kept_front}
 use Rattle.export_text.specs.ItemText.{items_text}
 use Rattle.export_text.specs.ExportItems.{marked}
@@ -23,8 +23,3 @@ returns-clause-written g c =
     c.loop-parent.invariant
     ∙ ap (λ (ps : List (List ℕ)). c.args.out.now.items ++ items_text (map (marked c.args.objects.now (codes "merge ")) ps))
     (take_all c.loop-parent.parent-index c.args.parents.now c.loop-parent-test.false)
-
-pub returns-clause-kept : goal.returns-clause-kept
-returns-clause-kept g c =
-    ap (take (length c.args.out.now.items)) c.loop-parent.invariant
-    ∙ take_at c.args.out.now.items _ (length c.args.out.now.items) refl

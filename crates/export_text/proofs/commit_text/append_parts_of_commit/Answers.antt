@@ -34,23 +34,3 @@ returns-clause-in_mind g c = λ good told.
     (kept_thrice c.args.out.now.items c.append_head.new.out.items c.append_data.new.out.items c.append_parents.new.out.items
     c.in_ok-append_head.ensures.kept c.in_ok-append_data.ensures.kept c.in_ok-append_parents.ensures.kept) told)))
     c.append_blank.ensures.written
-
-pub returns-in_err-append_data-clause-kept : goal.returns-in_err-append_data-clause-kept
-returns-in_err-append_data-clause-kept g c =
-    kept_twice c.args.out.now.items c.append_head.new.out.items c.append_data.new.out.items
-    c.in_ok-append_head.ensures.kept c.in_err-append_data.ensures.kept
-
-pub returns-in_err-append_parents-clause-kept : goal.returns-in_err-append_parents-clause-kept
-returns-in_err-append_parents-clause-kept g c =
-    kept_thrice c.args.out.now.items c.append_head.new.out.items c.append_data.new.out.items c.append_parents.new.out.items
-    c.in_ok-append_head.ensures.kept c.in_ok-append_data.ensures.kept c.in_err-append_parents.ensures.kept
-
-pub returns-in_err-append_all_files-clause-kept : goal.returns-in_err-append_all_files-clause-kept
-returns-in_err-append_all_files-clause-kept g c =
-    kept_four c.args.out.now.items c.append_head.new.out.items c.append_data.new.out.items c.append_parents.new.out.items c.append_all_files.new.out.items
-    c.in_ok-append_head.ensures.kept c.in_ok-append_data.ensures.kept c.in_ok-append_parents.ensures.kept c.in_err-append_all_files.ensures.kept
-
-pub returns-clause-kept : goal.returns-clause-kept
-returns-clause-kept g c =
-    kept_five c.args.out.now.items c.append_head.new.out.items c.append_data.new.out.items c.append_parents.new.out.items c.append_all_files.new.out.items c.append_blank.new.out.items
-    c.in_ok-append_head.ensures.kept c.in_ok-append_data.ensures.kept c.in_ok-append_parents.ensures.kept c.in_ok-append_all_files.ensures.kept c.append_blank.ensures.kept

@@ -13,8 +13,3 @@ returns-clause-written c =
     (Line (codes "feature force") ∷ []) (head_items c.args.refs.now.head) c.in_ok-append_line.ensures.written
     (last ∙ ap (λ head. c.append_line.new.out.items ++ items_text (head_items head)) c.head.ensures.head))
     c.append_head.ensures.written
-
-pub returns-clause-kept : goal.returns-clause-kept
-returns-clause-kept c =
-    kept_twice c.args.out.now.items c.append_line.new.out.items c.append_head.new.out.items
-    c.in_ok-append_line.ensures.kept c.append_head.ensures.kept

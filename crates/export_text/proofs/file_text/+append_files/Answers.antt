@@ -20,11 +20,6 @@ returns-then-branch-clause-in_mind g t c = λ good told.
     still-told c.args.objects.now c.args.out.now.items c.append_again.new.out.items c.args.told.now
     c.in_ok-append_again.ensures.kept told
 
-pub returns-in_err-append_file-in_default-clause-kept : goal.returns-in_err-append_file-in_default-clause-kept
-returns-in_err-append_file-in_default-clause-kept g t c =
-    kept_thrice c.args.out.now.items c.append_again.new.out.items c.loop-entry.out.items c.append_file.new.out.items
-    c.in_ok-append_again.ensures.kept c.loop-entry.invariant.kept c.in_err-append_file-in_default.ensures.kept
-
 pub loop-entry-preserved : goal.loop-entry-preserved
 loop-entry-preserved g t c =
     let os = c.args.objects.now in
@@ -97,21 +92,3 @@ returns-clause-in_mind g t c = λ good told.
     ∙ last-range again out (lines_within os c.args.levels c.args.prefix.now.items c.args.tree.now) all
     ∙ ap (λ (p : List ℕ). lines_within os c.args.levels p c.args.tree.now)
     (sym (c.deref-2.ensures.value ∙ c.loop-entry.invariant.prefix)))
-
-pub returns-in_err-entries-clause-kept : goal.returns-in_err-entries-clause-kept
-returns-in_err-entries-clause-kept g t c = c.in_ok-append_again.ensures.kept
-
-pub returns-in_err-enter-in-Directory-clause-kept : goal.returns-in_err-enter-in-Directory-clause-kept
-returns-in_err-enter-in-Directory-clause-kept g t c =
-    kept_twice c.args.out.now.items c.append_again.new.out.items c.loop-entry.out.items
-    c.in_ok-append_again.ensures.kept c.loop-entry.invariant.kept
-
-pub returns-in_err-append_files-in-Directory-clause-kept : goal.returns-in_err-append_files-in-Directory-clause-kept
-returns-in_err-append_files-in-Directory-clause-kept g t c =
-    kept_thrice c.args.out.now.items c.append_again.new.out.items c.loop-entry.out.items c.append_files.new.out.items
-    c.in_ok-append_again.ensures.kept c.loop-entry.invariant.kept c.in_err-append_files-in-Directory.ensures.kept
-
-pub returns-clause-kept : goal.returns-clause-kept
-returns-clause-kept g t c =
-    kept_twice c.args.out.now.items c.append_again.new.out.items c.loop-entry.out.items
-    c.in_ok-append_again.ensures.kept c.loop-entry.invariant.kept

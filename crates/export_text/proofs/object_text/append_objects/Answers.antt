@@ -55,11 +55,3 @@ returns-clause-written g c refs good are =
     ∙ ap (λ (xs : List Object). c.args.out.now.items ++ items_text (flat_map (items_of_object c.args.objects.now)
     (filter (λ (o : Object). is_referred_to (record { objects = c.args.objects.now; refs = refs }) o.id) xs)))
     (take_all c.loop-place.place c.args.objects.now (omega arith))
-
-pub returns-in_err-append_object-clause-kept : goal.returns-in_err-append_object-clause-kept
-returns-in_err-append_object-clause-kept g c =
-    kept_twice c.args.out.now.items c.loop-place.out.items c.append_object.new.out.items c.loop-place.invariant.kept
-    c.in_err-append_object.ensures.kept
-
-pub returns-clause-kept : goal.returns-clause-kept
-returns-clause-kept g c = c.loop-place.invariant.kept

@@ -18,23 +18,12 @@ loop-position-preserved g c = (
       (c.loop-position.invariant.1 good) (c.in_ok-append_ref.ensures.written good),
 )
 
-pub returns-in_default-clause-kept : goal.returns-in_default-clause-kept
-returns-in_default-clause-kept g c = c.loop-position.invariant.0
-
 pub returns-in_default-clause-written : goal.returns-in_default-clause-written
 returns-in_default-clause-written g c = λ good.
     let past = nothing-at (listed_refs c.args.refs.now) c.loop-position.position c.in_default.ensures.entry in
     let many = c.len-position-end.ensures in
     let before = c.loop-position-test.true in
     absurd (omega (arith, past, many, before))
-
-pub returns-in_err-append_ref-clause-kept : goal.returns-in_err-append_ref-clause-kept
-returns-in_err-append_ref-clause-kept g c =
-    kept_twice c.args.out.now.items c.loop-position.out.items c.append_ref.new.out.items c.loop-position.invariant.0
-    c.in_err-append_ref.ensures.kept
-
-pub returns-clause-kept : goal.returns-clause-kept
-returns-clause-kept g c = c.loop-position.invariant.0
 
 pub returns-clause-written : goal.returns-clause-written
 returns-clause-written g c = λ good.

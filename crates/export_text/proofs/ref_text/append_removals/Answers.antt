@@ -1,6 +1,6 @@
-use Rattle.std.proofs.Common.{ℕ, ◌++◌, List, length, take, refl, ap, ◌∙◌}
+use Rattle.std.proofs.Common.{ℕ, ◌++◌, List, ap, ◌∙◌}
 use Rattle.std.specs.List.{filter, flat_map}
-use Rattle.std.proofs.lemmas.List.{take_all, take_at}
+use Rattle.std.proofs.lemmas.List.{take_all}
 use Rattle.git_objects.proofs.Kept.{kept_front}
 use Rattle.export_text.specs.ItemText.{items_text}
 use Rattle.export_text.specs.Reached.{is_missing}
@@ -17,8 +17,3 @@ returns-clause-written c =
     ∙ ap (λ (names : List (List ℕ)). c.args.out.now.items
     ++ items_text (flat_map removal_items (filter (is_missing c.args.refs.now) names)))
     (take_all c.loop-ref_name.ref_name-index c.args.ref_names.now c.loop-ref_name-test.false)
-
-pub returns-clause-kept : goal.returns-clause-kept
-returns-clause-kept c =
-    ap (take (length c.args.out.now.items)) c.loop-ref_name.invariant
-    ∙ take_at c.args.out.now.items _ (length c.args.out.now.items) refl

@@ -17,23 +17,3 @@ returns-clause-written g c =
     c.in_ok-append_line.ensures.written c.in_ok-append_mark_if.ensures.written c.in_ok-append_marked.ensures.written
     c.in_ok-append_line_if.ensures.written last)
     c.append_data.ensures.written
-
-pub returns-in_err-append_mark_if-clause-kept : goal.returns-in_err-append_mark_if-clause-kept
-returns-in_err-append_mark_if-clause-kept g c =
-    kept_twice c.args.out.now.items c.append_line.new.out.items c.append_mark_if.new.out.items
-    c.in_ok-append_line.ensures.kept c.in_err-append_mark_if.ensures.kept
-
-pub returns-in_err-append_marked-clause-kept : goal.returns-in_err-append_marked-clause-kept
-returns-in_err-append_marked-clause-kept g c =
-    kept_thrice c.args.out.now.items c.append_line.new.out.items c.append_mark_if.new.out.items c.append_marked.new.out.items
-    c.in_ok-append_line.ensures.kept c.in_ok-append_mark_if.ensures.kept c.in_err-append_marked.ensures.kept
-
-pub returns-in_err-append_line_if-clause-kept : goal.returns-in_err-append_line_if-clause-kept
-returns-in_err-append_line_if-clause-kept g c =
-    kept_four c.args.out.now.items c.append_line.new.out.items c.append_mark_if.new.out.items c.append_marked.new.out.items c.append_line_if.new.out.items
-    c.in_ok-append_line.ensures.kept c.in_ok-append_mark_if.ensures.kept c.in_ok-append_marked.ensures.kept c.in_err-append_line_if.ensures.kept
-
-pub returns-clause-kept : goal.returns-clause-kept
-returns-clause-kept g c =
-    kept_five c.args.out.now.items c.append_line.new.out.items c.append_mark_if.new.out.items c.append_marked.new.out.items c.append_line_if.new.out.items c.append_data.new.out.items
-    c.in_ok-append_line.ensures.kept c.in_ok-append_mark_if.ensures.kept c.in_ok-append_marked.ensures.kept c.in_ok-append_line_if.ensures.kept c.append_data.ensures.kept
