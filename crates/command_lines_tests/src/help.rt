@@ -5,6 +5,31 @@ use clap::error::ErrorKind;
 use command_lines::VERSION;
 use std::alloc::Global;
 
+// The help of a subcommand that takes the pool file alone.
+macro_rules! help_of_pool {
+    ($name:literal, $about:literal) => {
+        concat!(
+            $about,
+            "\n\nUsage: gitpool ",
+            $name,
+            " --pool <FILE>\n\nOptions:\n      --pool <FILE>  The pool file\n  -h, --help         Print help\n"
+        )
+    };
+}
+
+// The help of one that takes a tenant too.
+macro_rules! help_of_tenant {
+    ($name:literal, $about:literal) => {
+        concat!(
+            $about,
+            "\n\nUsage: gitpool ",
+            $name,
+            " --pool <FILE> <TENANT>\n\nArguments:\n  <TENANT>  The tenant's name\n",
+            "\nOptions:\n      --pool <FILE>  The pool file\n  -h, --help         Print help\n"
+        )
+    };
+}
+
 const PROGRAM: &str = "\
 Git repositories of many tenants over one pool of objects
 
@@ -30,28 +55,15 @@ Options:
   -V, --version  Print version
 ";
 
-const SERVE: &str = "\
-Answer frames of steps from standard input on standard output
+const SERVE: &str = help_of_pool!(
+    "serve",
+    "Answer frames of steps from standard input on standard output"
+);
 
-Usage: gitpool serve --pool <FILE>
-
-Options:
-      --pool <FILE>  The pool file
-  -h, --help         Print help
-";
-
-const IMPORT: &str = "\
-Import a stream of git-fast-import(1) from standard input
-
-Usage: gitpool import --pool <FILE> <TENANT>
-
-Arguments:
-  <TENANT>  The tenant's name
-
-Options:
-      --pool <FILE>  The pool file
-  -h, --help         Print help
-";
+const IMPORT: &str = help_of_tenant!(
+    "import",
+    "Import a stream of git-fast-import(1) from standard input"
+);
 
 const ASK: &str = "\
 Print the answer to a query
@@ -67,15 +79,7 @@ Options:
   -h, --help         Print help
 ";
 
-const CHECK: &str = "\
-Check the pool file and count what it has
-
-Usage: gitpool check --pool <FILE>
-
-Options:
-      --pool <FILE>  The pool file
-  -h, --help         Print help
-";
+const CHECK: &str = help_of_pool!("check", "Check the pool file and count what it has");
 
 const COPY: &str = "\
 Copy a tenant's repository to an empty tenant
@@ -91,41 +95,14 @@ Options:
   -h, --help         Print help
 ";
 
-const REMOVE: &str = "\
-Remove a tenant with all that it has
+const REMOVE: &str = help_of_tenant!("remove", "Remove a tenant with all that it has");
 
-Usage: gitpool remove --pool <FILE> <TENANT>
+const COMPACT: &str = help_of_tenant!(
+    "compact",
+    "Drop the objects that no ref of a tenant reaches"
+);
 
-Arguments:
-  <TENANT>  The tenant's name
-
-Options:
-      --pool <FILE>  The pool file
-  -h, --help         Print help
-";
-
-const COMPACT: &str = "\
-Drop the objects that no ref of a tenant reaches
-
-Usage: gitpool compact --pool <FILE> <TENANT>
-
-Arguments:
-  <TENANT>  The tenant's name
-
-Options:
-      --pool <FILE>  The pool file
-  -h, --help         Print help
-";
-
-const SIZES: &str = "\
-Print how much each tenant has
-
-Usage: gitpool sizes --pool <FILE>
-
-Options:
-      --pool <FILE>  The pool file
-  -h, --help         Print help
-";
+const SIZES: &str = help_of_pool!("sizes", "Print how much each tenant has");
 
 const EXTRACT: &str = "\
 Write a tenant to a pool file of its own
@@ -154,15 +131,10 @@ Options:
   -h, --help         Print help
 ";
 
-const HOST: &str = "\
-Answer frames of steps and of the operator, and save when asked
-
-Usage: gitpool host --pool <FILE>
-
-Options:
-      --pool <FILE>  The pool file
-  -h, --help         Print help
-";
+const HOST: &str = help_of_pool!(
+    "host",
+    "Answer frames of steps and of the operator, and save when asked"
+);
 
 const PACK: &str = "\
 Write a pack of what the lines of standard input ask for

@@ -4,173 +4,47 @@ use command_lines::Line;
 use std::alloc::{AllocError, Global};
 use std::convert::AsStr;
 
-// Words, and the line that they name.
+// Words, and the line of this kind and with these parts that they name.
+macro_rules! read {
+    ([$($word:literal),+] => $kind:ident, $($part:ident: $value:literal),+) => {
+        (&[$($word),+], Line::$kind { $($part: $value),+ })
+    };
+}
+
 const READ: &[(&[&str], Line<'static>)] = &[
-    (&["serve", "--pool", "f"], Line::Serve { pool: "f" }),
-    (&["serve", "--pool=f"], Line::Serve { pool: "f" }),
-    (
-        &["check", "--pool", "a b/f.pool"],
-        Line::Check { pool: "a b/f.pool" },
-    ),
-    (
-        &["import", "t", "--pool", "f"],
-        Line::Import {
-            tenant: "t",
-            pool: "f",
-        },
-    ),
-    (
-        &["import", "--pool", "f", "t"],
-        Line::Import {
-            tenant: "t",
-            pool: "f",
-        },
-    ),
-    (
-        &["import", "--pool=f", "--", "--pool"],
-        Line::Import {
-            tenant: "--pool",
-            pool: "f",
-        },
-    ),
-    (
-        &["import", "", "--pool", "f"],
-        Line::Import {
-            tenant: "",
-            pool: "f",
-        },
-    ),
-    (
-        &["import", "serve", "--pool", "ask"],
-        Line::Import {
-            tenant: "serve",
-            pool: "ask",
-        },
-    ),
-    (
-        &["ask", "t", "rev-parse refs/heads/m", "--pool", "f"],
-        Line::Ask {
-            tenant: "t",
-            query: "rev-parse refs/heads/m",
-            pool: "f",
-        },
-    ),
-    (
-        &["ask", "t", "--pool=f", "refs"],
-        Line::Ask {
-            tenant: "t",
-            query: "refs",
-            pool: "f",
-        },
-    ),
-    (
-        &["ask", "--pool", "f", "--", "-t", "-h"],
-        Line::Ask {
-            tenant: "-t",
-            query: "-h",
-            pool: "f",
-        },
-    ),
-    (
-        &["ask", "-", "", "--pool", "-"],
-        Line::Ask {
-            tenant: "-",
-            query: "",
-            pool: "-",
-        },
-    ),
-    (
-        &["copy", "t", "u", "--pool", "f"],
-        Line::Copy {
-            from: "t",
-            to: "u",
-            pool: "f",
-        },
-    ),
-    (
-        &["copy", "t", "--pool=f", "t"],
-        Line::Copy {
-            from: "t",
-            to: "t",
-            pool: "f",
-        },
-    ),
-    (
-        &["copy", "--pool", "f", "--", "-t", "--pool"],
-        Line::Copy {
-            from: "-t",
-            to: "--pool",
-            pool: "f",
-        },
-    ),
-    (
-        &["remove", "t", "--pool", "f"],
-        Line::Remove {
-            tenant: "t",
-            pool: "f",
-        },
-    ),
-    (
-        &["compact", "--pool=f", "--", "-t"],
-        Line::Compact {
-            tenant: "-t",
-            pool: "f",
-        },
-    ),
-    (&["sizes", "--pool", "f"], Line::Sizes { pool: "f" }),
-    (
-        &["extract", "t", "--pool", "f", "--to", "g"],
-        Line::Extract {
-            tenant: "t",
-            file: "g",
-            pool: "f",
-        },
-    ),
-    (
-        &["extract", "--to=-g", "t", "--pool=f"],
-        Line::Extract {
-            tenant: "t",
-            file: "-g",
-            pool: "f",
-        },
-    ),
-    (
-        &["merge", "g", "--pool", "f"],
-        Line::Merge {
-            file: "g",
-            pool: "f",
-        },
-    ),
-    (&["host", "--pool", "f"], Line::Host { pool: "f" }),
-    (
-        &["pack", "t", "--pool", "f"],
-        Line::Pack {
-            tenant: "t",
-            all: false,
-            pool: "f",
-        },
-    ),
-    (
-        &["pack", "--all", "t", "--pool", "f"],
-        Line::Pack {
-            tenant: "t",
-            all: true,
-            pool: "f",
-        },
-    ),
-    (
-        &["pack", "--pool=f", "--", "--all"],
-        Line::Pack {
-            tenant: "--all",
-            all: false,
-            pool: "f",
-        },
-    ),
-    (&["check", "--pool=-f"], Line::Check { pool: "-f" }),
-    (&["check", "--pool=a=b"], Line::Check { pool: "a=b" }),
-    (&["check", "--pool="], Line::Check { pool: "" }),
-    (&["check", "--pool", ""], Line::Check { pool: "" }),
-    (&["check", "--pool", "é"], Line::Check { pool: "é" }),
+    read!(["serve", "--pool", "f"] => Serve, pool: "f"),
+    read!(["serve", "--pool=f"] => Serve, pool: "f"),
+    read!(["check", "--pool", "a b/f.pool"] => Check, pool: "a b/f.pool"),
+    read!(["import", "t", "--pool", "f"] => Import, tenant: "t", pool: "f"),
+    read!(["import", "--pool", "f", "t"] => Import, tenant: "t", pool: "f"),
+    read!(["import", "--pool=f", "--", "--pool"] => Import, tenant: "--pool", pool: "f"),
+    read!(["import", "", "--pool", "f"] => Import, tenant: "", pool: "f"),
+    read!(["import", "serve", "--pool", "ask"] => Import, tenant: "serve", pool: "ask"),
+    read!(["ask", "t", "rev-parse refs/heads/m", "--pool", "f"] =>
+        Ask, tenant: "t", query: "rev-parse refs/heads/m", pool: "f"),
+    read!(["ask", "t", "--pool=f", "refs"] => Ask, tenant: "t", query: "refs", pool: "f"),
+    read!(["ask", "--pool", "f", "--", "-t", "-h"] => Ask, tenant: "-t", query: "-h", pool: "f"),
+    read!(["ask", "-", "", "--pool", "-"] => Ask, tenant: "-", query: "", pool: "-"),
+    read!(["copy", "t", "u", "--pool", "f"] => Copy, from: "t", to: "u", pool: "f"),
+    read!(["copy", "t", "--pool=f", "t"] => Copy, from: "t", to: "t", pool: "f"),
+    read!(["copy", "--pool", "f", "--", "-t", "--pool"] =>
+        Copy, from: "-t", to: "--pool", pool: "f"),
+    read!(["remove", "t", "--pool", "f"] => Remove, tenant: "t", pool: "f"),
+    read!(["compact", "--pool=f", "--", "-t"] => Compact, tenant: "-t", pool: "f"),
+    read!(["sizes", "--pool", "f"] => Sizes, pool: "f"),
+    read!(["extract", "t", "--pool", "f", "--to", "g"] =>
+        Extract, tenant: "t", file: "g", pool: "f"),
+    read!(["extract", "--to=-g", "t", "--pool=f"] => Extract, tenant: "t", file: "-g", pool: "f"),
+    read!(["merge", "g", "--pool", "f"] => Merge, file: "g", pool: "f"),
+    read!(["host", "--pool", "f"] => Host, pool: "f"),
+    read!(["pack", "t", "--pool", "f"] => Pack, tenant: "t", all: false, pool: "f"),
+    read!(["pack", "--all", "t", "--pool", "f"] => Pack, tenant: "t", all: true, pool: "f"),
+    read!(["pack", "--pool=f", "--", "--all"] => Pack, tenant: "--all", all: false, pool: "f"),
+    read!(["check", "--pool=-f"] => Check, pool: "-f"),
+    read!(["check", "--pool=a=b"] => Check, pool: "a=b"),
+    read!(["check", "--pool="] => Check, pool: ""),
+    read!(["check", "--pool", ""] => Check, pool: ""),
+    read!(["check", "--pool", "é"] => Check, pool: "é"),
 ];
 
 fn is_read_as<S: AsStr>(alloc: Global, words: &[S], line: Line<'_>) -> bool {

@@ -4,14 +4,8 @@
 #[cfg(test)]
 mod devices;
 #[cfg(test)]
-mod idents;
-#[cfg(test)]
-mod made_by_git;
-#[cfg(test)]
 mod names;
 #[cfg(test)]
 mod objects;
 #[cfg(test)]
 mod paths;
-#[cfg(test)]
-mod ref_names;

@@ -1,5 +1,8 @@
 //! Object names compared with those of `git hash-object`, and digests with examples of FIPS 180-4.
 
+mod idents;
+mod ref_names;
+
 use git_names::{Kind, Name, Naming, Sha1Naming, TailNaming, name_of};
 use std::alloc::Global;
 
@@ -53,22 +56,14 @@ fn is_named<N: Naming>(
 
 // The index of the first contents that get another name.
 fn first_named_otherwise(alloc: Global) -> Option<usize> {
-    for (place, (kind, contents, digits)) in NAMED.iter().enumerate() {
-        if !is_named(alloc, &Sha1Naming, *kind, contents, digits) {
-            return Some(place);
-        }
-    }
-    None
+    NAMED
+        .iter()
+        .position(|row| !is_named(alloc, &Sha1Naming, row.0, row.1, row.2))
 }
 
 // The index of the first message that gets another digest.
 fn first_digested_otherwise() -> Option<usize> {
-    for (place, (message, digits)) in DIGESTED.iter().enumerate() {
-        if Name::from_bytes(Sha1Naming.digest(message)).to_hex() != **digits {
-            return Some(place);
-        }
-    }
-    None
+    DIGESTED.iter().position(|row| Name::from_bytes(Sha1Naming.digest(row.0)).to_hex() != *row.1)
 }
 
 // `blob 2 NUL ab` has the sum 692, which is 0xb4 modulo 256.

@@ -1,5 +1,7 @@
 //! Trees and tags that are refused, and similar ones that are read.
 
+mod made_by_git;
+
 use git_objects::{
     FileMode, TreeEntry, is_entry_name, mode_digits, read_mode, read_tag, read_tree,
 };
@@ -109,22 +111,15 @@ fn has_the_file_first(alloc: Global) -> bool {
 
 // The index of the first text for which the table is wrong.
 fn first_tree_otherwise(alloc: Global) -> Option<usize> {
-    for (place, (contents, is_well)) in TREES.iter().enumerate() {
-        if is_tree(alloc, contents) != Some(*is_well) {
-            return Some(place);
-        }
-    }
-    None
+    TREES
+        .iter()
+        .position(|row| is_tree(alloc, row.0) != Some(row.1))
 }
 
 // The same for tags.
 fn first_tag_otherwise(alloc: Global) -> Option<usize> {
-    for (place, (contents, is_well)) in TAGS.iter().enumerate() {
-        if is_tag(alloc, contents) != Some(*is_well) {
-            return Some(place);
-        }
-    }
-    None
+    TAGS.iter()
+        .position(|row| is_tag(alloc, row.0) != Some(row.1))
 }
 
 fn are_modes() -> bool {

@@ -86,32 +86,23 @@ fn ends_at(alloc: Global, text: &[u8], bytes: &[u8], rest: &[u8]) -> bool {
 
 // The index of the first quoted path that is read or printed differently.
 fn first_misprinted(alloc: Global) -> Option<usize> {
-    for (place, (text, bytes)) in QUOTED.iter().enumerate() {
-        if !is_read_and_printed(alloc, text, bytes) {
-            return Some(place);
-        }
-    }
-    None
+    QUOTED
+        .iter()
+        .position(|row| !is_read_and_printed(alloc, row.0, row.1))
 }
 
 // The index of the first source that is read differently.
 fn first_source_misread(alloc: Global) -> Option<usize> {
-    for (place, (text, bytes, rest)) in SOURCES.iter().enumerate() {
-        if !ends_at(alloc, text, bytes, rest) {
-            return Some(place);
-        }
-    }
-    None
+    SOURCES
+        .iter()
+        .position(|row| !ends_at(alloc, row.0, row.1, row.2))
 }
 
 // The index of the first of these texts that is not refused as a bad path.
 fn first_not_refused(alloc: Global, texts: &[&[u8]], place: Place) -> Option<usize> {
-    for (number, text) in texts.iter().enumerate() {
-        if code_of(alloc, text, place) != 10 {
-            return Some(number);
-        }
-    }
-    None
+    texts
+        .iter()
+        .position(|text| code_of(alloc, text, place) != 10)
 }
 
 #[test]
@@ -120,13 +111,13 @@ fn reads_and_prints_each_escape(rt: HostRuntime) {
 }
 
 #[test]
-fn reads_a_source_up_to_its_space(rt: HostRuntime) {
-    assert_eq!(rt; first_source_misread(rt.alloc()), None);
+fn refuses_bad_paths_as_ten(rt: HostRuntime) {
+    assert_eq!(rt; first_not_refused(rt.alloc(), BAD_PATHS, Place::Last), None);
 }
 
 #[test]
-fn refuses_bad_paths_as_ten(rt: HostRuntime) {
-    assert_eq!(rt; first_not_refused(rt.alloc(), BAD_PATHS, Place::Last), None);
+fn reads_a_source_up_to_its_space(rt: HostRuntime) {
+    assert_eq!(rt; first_source_misread(rt.alloc()), None);
 }
 
 #[test]
@@ -180,22 +171,12 @@ fn is_long(alloc: Global, quote: &[u8], bytes: usize, code: u16) -> bool {
 
 // Whether paths are read up to the limit on components, and not past it.
 fn are_as_deep(alloc: Global) -> bool {
-    for (components, code, within) in DEEP {
-        if !is_deep(alloc, *components, *code, *within) {
-            return false;
-        }
-    }
-    true
+    DEEP.iter().all(|row| is_deep(alloc, row.0, row.1, row.2))
 }
 
 // The same for the limit on bytes.
 fn are_as_long(alloc: Global) -> bool {
-    for (quote, bytes, code) in LONG {
-        if !is_long(alloc, quote, *bytes, *code) {
-            return false;
-        }
-    }
-    true
+    LONG.iter().all(|row| is_long(alloc, row.0, row.1, row.2))
 }
 
 #[test]

@@ -9,29 +9,44 @@
 use crate::repository::{Case, first_wrong};
 use std::alloc::Global;
 
+// What cases begin with: a commit that is begun, one of two directories, and one on a commit of one
+// file.
+const BEGUN: &[u8] = b"blob 1 hello\n;\
+    begin x\n";
+
+const TWO_DIRECTORIES: &[u8] = b"blob 1 hello\n;\
+    begin x\n;\
+    modify 0 100644 :1 a/b/x;\
+    modify 0 100644 :1 c/y;\
+    close 2 cf780e9a36220c9a1149be6eff64a0394682cccd";
+
+const ON_ONE_FILE: &[u8] = b"blob 1 hello\n;\
+    begin x\n;\
+    modify 0 100644 :1 f;\
+    close 2 28139c25c808723300683a56bda158d153221c0e;\
+    begin y\n;\
+    from 2";
+
 // The steps of a case are one text, because the prover reads a text faster than a table.
 const CASES: &[Case] = &[
     Case {
         does: "one file",
-        steps: b"blob 1 hello\n;\
-            begin x\n;\
-            modify 0 100644 :1 test.txt;\
+        begin: BEGUN,
+        steps: b"modify 0 100644 :1 test.txt;\
             close 2 eb92ddbd5e6860a8c3150a81fb07fa9e154ca366;\
             stored 3",
     },
     Case {
         does: "a file before a directory that begins like it",
-        steps: b"blob 1 hello\n;\
-            begin x\n;\
-            modify 0 100644 :1 a/x;\
+        begin: BEGUN,
+        steps: b"modify 0 100644 :1 a/x;\
             modify 0 100644 ce013625030ba8dba906f756967f9e9ca394464a a.txt;\
             close 2 e9c2c12b6a92247b55498374994d945a526fba79",
     },
     Case {
         does: "an empty directory goes, and no files are the empty tree",
-        steps: b"blob 1 hello\n;\
-            begin x\n;\
-            modify 0 100644 :1 d;\
+        begin: BEGUN,
+        steps: b"modify 0 100644 :1 d;\
             modify 0 100644 :1 d/x;\
             delete d/x;\
             shows_none d;\
@@ -40,9 +55,8 @@ const CASES: &[Case] = &[
     },
     Case {
         does: "a directory is renamed below itself, and a missing one is refused",
-        steps: b"blob 1 hello\n;\
-            begin x\n;\
-            modify 0 100644 :1 a/x;\
+        begin: BEGUN,
+        steps: b"modify 0 100644 :1 a/x;\
             rename 0 a a/b;\
             rename 18 a/x c;\
             rename 20 a/b/x;\
@@ -50,27 +64,24 @@ const CASES: &[Case] = &[
     },
     Case {
         does: "a quoted path is copied",
-        steps: b"blob 1 hello\n;\
-            begin x\n;\
-            modify 0 100755 :1 \"a\\303\\251\";\
+        begin: BEGUN,
+        steps: b"modify 0 100755 :1 \"a\\303\\251\";\
             copy 0 \"a\\303\\251\" b;\
             copy 18 c d;\
             close 2 8ae2e6a1437a696508d6e20789e217b3f72c3d06",
     },
     Case {
         does: "all files are deleted",
-        steps: b"blob 1 hello\n;\
-            begin x\n;\
-            modify 0 100644 :1 a;\
+        begin: BEGUN,
+        steps: b"modify 0 100644 :1 a;\
             delete_all;\
             modify 0 120000 :1 b;\
             close 2 7face578196e30c3906c0a95e41f58a761d23793",
     },
     Case {
         does: "stored trees are put below the root and at it",
-        steps: b"blob 1 hello\n;\
-            begin x\n;\
-            modify 0 100644 :1 a/x;\
+        begin: BEGUN,
+        steps: b"modify 0 100644 :1 a/x;\
             modify 0 100644 :1 b;\
             close 2 671fc0509a2a93f953e1052a3356c3543bfc35dc;\
             begin y\n;\
@@ -84,9 +95,8 @@ const CASES: &[Case] = &[
     },
     Case {
         does: "a gitlink names what is not there, or a commit by its mark",
-        steps: b"blob 1 hello\n;\
-            begin x\n;\
-            modify 0 160000 0123456789abcdef0123456789abcdef01234567 s;\
+        begin: BEGUN,
+        steps: b"modify 0 160000 0123456789abcdef0123456789abcdef01234567 s;\
             close 2 07b06b2782888871eacdc0b5a7af160a69c5210b;\
             begin x\n;\
             modify 0 100644 :1 f;\
@@ -98,6 +108,7 @@ const CASES: &[Case] = &[
     },
     Case {
         does: "a message with an encoding",
+        begin: b"",
         steps: b"blob 1 hello\n;\
             begin caf\xe9\n encoding;\
             modify 0 100644 :1 f;\
@@ -105,6 +116,7 @@ const CASES: &[Case] = &[
     },
     Case {
         does: "an author of its own; without one the committer wrote it",
+        begin: b"",
         steps: b"blob 1 hello\n;\
             begin x\n author;\
             modify 0 100644 :1 f;\
@@ -117,13 +129,8 @@ const CASES: &[Case] = &[
     },
     Case {
         does: "parents as they are given: a first one, one twice, one without files",
-        steps: b"blob 1 hello\n;\
-            begin x\n;\
-            modify 0 100644 :1 f;\
-            close 2 28139c25c808723300683a56bda158d153221c0e;\
-            begin y\n;\
-            from 2;\
-            modify 0 100644 :1 g;\
+        begin: ON_ONE_FILE,
+        steps: b"modify 0 100644 :1 g;\
             close 3 c5c1553e24728c2ae274b5f342386f70db9a659d;\
             begin z\n;\
             from 2;\
@@ -139,18 +146,14 @@ const CASES: &[Case] = &[
     },
     Case {
         does: "1,024 parents, and no more",
-        steps: b"blob 1 hello\n;\
-            begin x\n;\
-            modify 0 100644 :1 f;\
-            close 2 28139c25c808723300683a56bda158d153221c0e;\
-            begin y\n;\
-            from 2;\
-            merges 1023 2;\
+        begin: ON_ONE_FILE,
+        steps: b"merges 1023 2;\
             merge 25 2;\
             close 3 cef631dfa1d6d6ad99631540489c1052c13be23d",
     },
     Case {
         does: "contents that come with their file, and none stored where it is refused",
+        begin: b"",
         steps: b"begin x\n;\
             inline 20 100644  z;\
             begin x\n;\
@@ -166,30 +169,21 @@ const CASES: &[Case] = &[
     },
     Case {
         does: "a commit that goes on where the last one ended reads no tree again",
-        steps: b"blob 1 hello\n;\
-            begin x\n;\
-            modify 0 100644 :1 a/b/x;\
-            modify 0 100644 :1 c/y;\
-            close 2 cf780e9a36220c9a1149be6eff64a0394682cccd;\
-            go_on 0 y\n;\
+        begin: TWO_DIRECTORIES,
+        steps: b"go_on 0 y\n;\
             from 2;\
             modify 0 100644 :1 a/b/z;\
             close 3 65150c2c7cc044e5c22999905220aa0b1ad896b6;\
             go_on 0 z\n;\
             from 3;\
-            delete a/b/x;\
-            modify 0 100755 :1 c/y;\
+            delete a/b/x;modify 0 100755 :1 c/y;\
             close 4 b6f1003b0aa797a931291bfb4704e1a5403ba704;\
             go_on 0",
     },
     Case {
         does: "a commit reads the trees on its way, each once; another parent is read anew",
-        steps: b"blob 1 hello\n;\
-            begin x\n;\
-            modify 0 100644 :1 a/b/x;\
-            modify 0 100644 :1 c/y;\
-            close 2 cf780e9a36220c9a1149be6eff64a0394682cccd;\
-            begin y\n;\
+        begin: TWO_DIRECTORIES,
+        steps: b"begin y\n;\
             from 2;\
             modify 0 100644 :1 a/b/z;\
             close 3 65150c2c7cc044e5c22999905220aa0b1ad896b6;\
@@ -199,8 +193,7 @@ const CASES: &[Case] = &[
             close 5 3a2581910f68785f3b1d00f81f7a87d1ca278ee8;\
             go_on 5 z\n;\
             from 3;\
-            delete a/b/x;\
-            modify 0 100755 :1 c/y;\
+            delete a/b/x;modify 0 100755 :1 c/y;\
             close 4 b6f1003b0aa797a931291bfb4704e1a5403ba704;\
             go_on 9 v\n;\
             from 4;\
@@ -211,12 +204,8 @@ const CASES: &[Case] = &[
     },
     Case {
         does: "files that are left stay only where the commit does not begin otherwise",
-        steps: b"blob 1 hello\n;\
-            begin x\n;\
-            modify 0 100644 :1 a/b/x;\
-            modify 0 100644 :1 c/y;\
-            close 2 cf780e9a36220c9a1149be6eff64a0394682cccd;\
-            go_on 0 w\n;\
+        begin: TWO_DIRECTORIES,
+        steps: b"go_on 0 w\n;\
             shows 100644 ce013625030ba8dba906f756967f9e9ca394464a a/b/x;\
             delete_all;\
             shows_none a;\
@@ -226,9 +215,8 @@ const CASES: &[Case] = &[
     // `git fast-import` printed the names.
     Case {
         does: "what is shown, whose trees are stored",
-        steps: b"blob 1 hello\n;\
-            begin x\n;\
-            modify 0 100644 :1 a/b/x;\
+        begin: BEGUN,
+        steps: b"modify 0 100644 :1 a/b/x;\
             stored 1;\
             shows 40000 e85c8ddedabee0bcf8944d9aaacfbb35e6216b9b a;\
             stored 3;\
@@ -242,9 +230,8 @@ const CASES: &[Case] = &[
     },
     Case {
         does: "refusals in their order, after which nothing has changed",
-        steps: b"blob 1 hello\n;\
-            begin x\n;\
-            modify 13 100644 :9;\
+        begin: BEGUN,
+        steps: b"modify 13 100644 :9;\
             modify 14 100644 4b825dc642cb6eb9a060e54bf8d69288fbee4904;\
             modify 13 40000 :9;\
             modify 15 40000 :1;\
@@ -259,17 +246,17 @@ const CASES: &[Case] = &[
     },
 ];
 
-// What the first case does that fails, and the position of the step that fails.
-fn first_otherwise(alloc: Global) -> Option<(&'static str, usize)> {
-    for case in CASES {
-        if let Some(position) = first_wrong(alloc, case.steps) {
-            return Some((case.does, position));
-        }
-    }
-    None
-}
-
 #[test]
 fn commits_go_as_git_says(rt: HostRuntime) {
     assert_eq!(rt; first_otherwise(rt.alloc()), None);
+}
+
+// What the first case does that fails, and the step that fails.
+fn first_otherwise(alloc: Global) -> Option<(&'static str, &'static [u8])> {
+    for case in CASES {
+        if let Some(step) = first_wrong(alloc, case) {
+            return Some((case.does, step));
+        }
+    }
+    None
 }

@@ -1,7 +1,9 @@
 //! A test repository with marks and an open commit, on which steps are carried out.
 
 use crate::taking::{answers, begin_on, code_of, files_left, put_back, taken};
-use crate::words::{header_with, is, long_path, mark_of, mode, number, object, path_of, word};
+use crate::words::{
+    Verb, header_with, long_path, mark_of, mode, number, object, path_of, verb_of, word,
+};
 use content_pool::Pool;
 use file_maps::Entry;
 use git_objects::{FileMode, Kind, Name, Naming, Sha1Naming};
@@ -14,16 +16,18 @@ use stream_marks::Marks;
 use tenant_tables::{Fault, Table};
 use tree_build::Files;
 
-/// What a case does, in words and as steps over an empty repository.
+/// What a case does, in words and as steps over an empty repository: those with which it begins,
+/// if there are such, and then its own.
 pub struct Case {
     pub does: &'static str,
+    pub begin: &'static [u8],
     pub steps: &'static [u8],
 }
 
-/// The position of the first step that does not go as it says.
-pub fn first_wrong(alloc: Global, steps: &[u8]) -> Option<usize> {
+/// The first step that does not go as it says.
+pub fn first_wrong(alloc: Global, case: &Case) -> Option<&'static [u8]> {
     let mut repository = Repository::new(alloc, Sha1Naming);
-    let wrong = repository.first_wrong(steps);
+    let wrong = repository.first_wrong_of(case);
     drop(repository);
     wrong
 }
@@ -33,8 +37,8 @@ struct Repository<N: Naming> {
     alloc: Global,
     pool: Pool<N>,
     table: Table,
-    marks: Marks,
     commit: Option<OpenCommit>,
+    marks: Marks,
 }
 
 impl<N: Naming> Model for Repository<N> {
@@ -59,15 +63,25 @@ impl<N: Naming> Repository<N> {
             alloc,
             pool: Pool::new(alloc, naming),
             table: Table::new(alloc),
-            marks: Marks::new(alloc),
             commit: None,
+            marks: Marks::new(alloc),
         }
     }
 
-    fn first_wrong(&mut self, steps: &[u8]) -> Option<usize> {
-        for (position, step) in steps.split(|byte| *byte == b';').enumerate() {
+    fn first_wrong_of(&mut self, case: &Case) -> Option<&'static [u8]> {
+        if case.begin.is_empty() {
+            return self.first_wrong(case.steps);
+        }
+        match self.first_wrong(case.begin) {
+            Some(step) => Some(step),
+            None => self.first_wrong(case.steps),
+        }
+    }
+
+    fn first_wrong<'a>(&mut self, steps: &'a [u8]) -> Option<&'a [u8]> {
+        for step in steps.split(|byte| *byte == b';') {
             if self.takes(step) != Some(true) {
-                return Some(position);
+                return Some(step);
             }
         }
         None
@@ -76,66 +90,43 @@ impl<N: Naming> Repository<N> {
     // Whether a step goes as it says; `None` if its words are no step, or memory ran out. Each
     // function knows a few of the steps, so that its proof is short.
     fn takes(&mut self, step: &[u8]) -> Option<bool> {
-        if is(step, b"blob") {
-            self.add_blob(step)
-        } else if is(step, b"begin") {
-            self.begin(step)
-        } else if is(step, b"go_on") {
-            self.go_on(step)
-        } else if is(step, b"from") {
-            self.start_from(step)
-        } else {
-            self.changes(step)
+        match verb_of(step)? {
+            Verb::Blob => self.add_blob(step),
+            Verb::Begin => self.begin(step),
+            Verb::GoOn => self.go_on(step),
+            Verb::From => self.start_from(step),
+            other => self.changes(other, step),
         }
     }
 
-    fn changes(&mut self, step: &[u8]) -> Option<bool> {
-        if is(step, b"modify") {
-            self.modify(step)
-        } else if is(step, b"inline") {
-            self.put_contents(step)
-        } else if is(step, b"delete") {
-            self.delete(step)
-        } else if is(step, b"delete_all") {
-            self.delete_all()
-        } else {
-            self.moves(step)
+    fn changes(&mut self, verb: Verb, step: &[u8]) -> Option<bool> {
+        match verb {
+            Verb::Modify => self.modify(step),
+            Verb::Inline => self.put_contents(step),
+            Verb::Delete => self.delete(step),
+            Verb::DeleteAll => self.delete_all(),
+            other => self.moves(other, step),
         }
     }
 
-    fn moves(&mut self, step: &[u8]) -> Option<bool> {
-        if is(step, b"merge") {
-            self.merge(step)
-        } else if is(step, b"copy") {
-            self.copy(step)
-        } else if is(step, b"rename") {
-            self.rename(step)
-        } else if is(step, b"close") {
-            self.close(step)
-        } else {
-            self.shows(step)
+    fn moves(&mut self, verb: Verb, step: &[u8]) -> Option<bool> {
+        match verb {
+            Verb::Merge => self.merge(step),
+            Verb::Copy => self.copy_or_rename(step, true),
+            Verb::Rename => self.copy_or_rename(step, false),
+            Verb::Close => self.close(step),
+            other => self.shows(other, step),
         }
     }
 
-    fn shows(&mut self, step: &[u8]) -> Option<bool> {
-        if is(step, b"shows") {
-            self.has_entry(step)
-        } else if is(step, b"shows_none") {
-            self.has_none(step)
-        } else if is(step, b"stored") {
-            self.has_stored(step)
-        } else {
-            self.goes_far(step)
-        }
-    }
-
-    fn goes_far(&mut self, step: &[u8]) -> Option<bool> {
-        if is(step, b"merges") {
-            self.merge_often(step)
-        } else if is(step, b"modify_long") {
-            self.modify_long(step)
-        } else {
-            Some(false)
+    fn shows(&mut self, verb: Verb, step: &[u8]) -> Option<bool> {
+        match verb {
+            Verb::Shows => self.has_entry(step),
+            Verb::ShowsNone => self.has_none(step),
+            Verb::Stored => self.has_stored(step),
+            Verb::Merges => self.merge_often(step),
+            Verb::ModifyLong => self.modify_long(step),
+            _ => Some(false),
         }
     }
 
@@ -288,32 +279,31 @@ impl<N: Naming> Repository<N> {
         Some(true)
     }
 
-    fn copy(&mut self, step: &[u8]) -> Option<bool> {
+    fn copy_or_rename(&mut self, step: &[u8], is_copied: bool) -> Option<bool> {
         let code = number(step, 1)?;
         let source = self.path(step, 2)?;
-        self.copy_from(&source, step, code)
+        self.copy_or_rename_from(&source, step, code, is_copied)
     }
 
-    fn copy_from(&mut self, source: &Path, step: &[u8], code: u64) -> Option<bool> {
+    fn copy_or_rename_from(
+        &mut self,
+        source: &Path,
+        step: &[u8],
+        code: u64,
+        is_copied: bool,
+    ) -> Option<bool> {
         let path = self.path(step, 3)?;
-        self.copy_to(source, &path, code)
+        if is_copied {
+            self.copy_to(source, &path, code)
+        } else {
+            self.rename_to(source, &path, code)
+        }
     }
 
     fn copy_to(&mut self, source: &Path, path: &Path, code: u64) -> Option<bool> {
         let mut commit = taken(&mut self.commit)?;
         let answer = commit.copy(&self.pool, &self.table, source, path);
         Some(answers(&mut self.commit, commit, answer, code))
-    }
-
-    fn rename(&mut self, step: &[u8]) -> Option<bool> {
-        let code = number(step, 1)?;
-        let source = self.path(step, 2)?;
-        self.rename_from(&source, step, code)
-    }
-
-    fn rename_from(&mut self, source: &Path, step: &[u8], code: u64) -> Option<bool> {
-        let path = self.path(step, 3)?;
-        self.rename_to(source, &path, code)
     }
 
     fn rename_to(&mut self, source: &Path, path: &Path, code: u64) -> Option<bool> {

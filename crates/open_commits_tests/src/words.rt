@@ -29,14 +29,57 @@ const AUTHOR: &[u8] = b"B C <b@c> 7 +0130";
 
 const ENCODING: &[u8] = b"ISO-8859-1";
 
+/// What a step does, as its first word says.
+#[derive(Clone, Copy)]
+pub enum Verb {
+    Blob,
+    Begin,
+    GoOn,
+    From,
+    Modify,
+    Inline,
+    Delete,
+    DeleteAll,
+    Merge,
+    Copy,
+    Rename,
+    Close,
+    Shows,
+    ShowsNone,
+    Stored,
+    Merges,
+    ModifyLong,
+}
+
+const VERBS: &[(&[u8], Verb)] = &[
+    (b"blob", Verb::Blob),
+    (b"begin", Verb::Begin),
+    (b"go_on", Verb::GoOn),
+    (b"from", Verb::From),
+    (b"modify", Verb::Modify),
+    (b"inline", Verb::Inline),
+    (b"delete", Verb::Delete),
+    (b"delete_all", Verb::DeleteAll),
+    (b"merge", Verb::Merge),
+    (b"copy", Verb::Copy),
+    (b"rename", Verb::Rename),
+    (b"close", Verb::Close),
+    (b"shows", Verb::Shows),
+    (b"shows_none", Verb::ShowsNone),
+    (b"stored", Verb::Stored),
+    (b"merges", Verb::Merges),
+    (b"modify_long", Verb::ModifyLong),
+];
+
 /// The word at this place of a step, counted from 0.
 pub fn word(step: &[u8], place: usize) -> &[u8] {
     step.split(|byte| *byte == b' ').nth(place).unwrap_or(b"")
 }
 
-/// Whether a step begins with this word. A `match` over words would be proved byte by byte.
-pub fn is(step: &[u8], verb: &[u8]) -> bool {
-    word(step, 0) == verb
+/// What a step does. A `match` over words would be proved byte by byte.
+pub fn verb_of(step: &[u8]) -> Option<Verb> {
+    let verb = word(step, 0);
+    Some(VERBS.iter().find(|row| row.0 == verb)?.1)
 }
 
 pub fn number(step: &[u8], place: usize) -> Option<u64> {

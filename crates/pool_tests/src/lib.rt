@@ -5,14 +5,8 @@
 #[cfg(test)]
 mod names;
 #[cfg(test)]
-mod plain_pool;
-#[cfg(test)]
-mod plain_table;
-#[cfg(test)]
 mod pools;
 #[cfg(test)]
 mod refs;
 #[cfg(test)]
 mod tables;
-#[cfg(test)]
-mod tenant_names;

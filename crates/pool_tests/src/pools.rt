@@ -1,13 +1,15 @@
 //! What no clause says about a pool: names from git, that calls succeed, and which slot is used
 //! again.
 
+mod plain_pool;
+
 ghost use Rattle.std.specs.Prelude.{◌≡◌, ℕ, ◌+◌, ◌<◌, ◌≤◌, IfOk};
 ghost use Rattle.content_pool.specs.Pool.{HasHoldsLeft, IsVacant, holds};
 
-use crate::plain_pool::PlainPool;
 use content_pool::{Pool, Slot};
 use git_model::Kind;
 use git_objects::{Memory, Naming, Sha1Naming, TailNaming};
+use plain_pool::PlainPool;
 use std::alloc::Global;
 use std::test::Fail;
 
@@ -140,11 +142,23 @@ fn new_pool_goes(alloc: Global, turn: Turn) -> Result<bool, Fail> {
     goes
 }
 
-fn new_pool_tells_apart(alloc: Global) -> Result<bool, Memory> {
+// Whether a new pool, in which two contents have one name, tells them apart, or else stays as it
+// is after a refusal.
+fn new_pool_goes_by_tail(alloc: Global, tells_apart: bool) -> Result<bool, Memory> {
     let mut pool = Pool::new(alloc, TailNaming);
-    let tells = tells_two_contents_of_one_name_apart(&mut pool);
+    let goes = goes_by_tail(&mut pool, tells_apart);
     drop(pool);
-    tells
+    goes
+}
+
+fn goes_by_tail(pool: &mut Pool<TailNaming>, tells_apart: bool) -> Result<bool, Memory>
+    requires { IsVacant pool.old }
+{
+    if tells_apart {
+        tells_two_contents_of_one_name_apart(pool)
+    } else {
+        put_both(pool)
+    }
 }
 
 #[test]
@@ -153,7 +167,13 @@ fn stores_each_content_once(rt: HostRuntime) -> Result<(), Fail> {
     assert!(rt; new_pool_goes(rt.alloc(), Turn::Keeps)?);
     assert!(rt; new_pool_goes(rt.alloc(), Turn::UsesAgain)?);
     assert!(rt; new_pool_goes(rt.alloc(), Turn::TakesMany)?);
-    assert!(rt; new_pool_tells_apart(rt.alloc())?);
+    assert!(rt; new_pool_goes_by_tail(rt.alloc(), true)?);
+    Ok(())
+}
+
+#[test]
+fn answers_as_the_plain_pool_does(rt: HostRuntime) -> Result<(), Fail> {
+    assert!(rt; new_pools_answer_alike(rt.alloc())?);
     Ok(())
 }
 
@@ -202,28 +222,7 @@ fn new_pools_answer_alike(alloc: Global) -> Result<bool, Memory> {
     alike
 }
 
-#[test]
-fn answers_as_the_plain_pool_does(rt: HostRuntime) -> Result<(), Fail> {
-    assert!(rt; new_pools_answer_alike(rt.alloc())?);
-    Ok(())
-}
-
-// Run with the first, second, .. allocation refused: the pool is then as it was, and a second try
-// goes through.
-#[test]
-fn is_unchanged_after_a_refused_growth(rt: HostRuntime) -> Result<(), Fail> {
-    assert!(rt; stays_after_a_refusal(rt.alloc())?);
-    Ok(())
-}
-
 // Whether both contents are put, each tried again if an allocation failed and changed nothing.
-fn stays_after_a_refusal(alloc: Global) -> Result<bool, Memory> {
-    let mut pool = Pool::new(alloc, TailNaming);
-    let stays = put_both(&mut pool);
-    drop(pool);
-    stays
-}
-
 fn put_both(pool: &mut Pool<TailNaming>) -> Result<bool, Memory>
     requires { IsVacant pool.old }
 {
@@ -244,4 +243,12 @@ fn stays_and_takes(pool: &mut Pool<TailNaming>, bytes: &[u8]) -> Result<bool, Me
     let is_unchanged = pool.stored() == before;
     pool.put(Kind::Blob, bytes)?;
     Ok(is_unchanged)
+}
+
+// Run with the first, second, .. allocation refused: the pool is then as it was, and a second try
+// goes through.
+#[test]
+fn is_unchanged_after_a_refused_growth(rt: HostRuntime) -> Result<(), Fail> {
+    assert!(rt; new_pool_goes_by_tail(rt.alloc(), false)?);
+    Ok(())
 }

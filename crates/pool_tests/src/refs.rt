@@ -1,10 +1,20 @@
 //! What no clause says about refs: that calls succeed while there is memory, and the order of names
 //! that begin alike; and many changes beside git.
 
+mod tenant_names;
+
 use git_objects::Name;
 use std::alloc::Global;
 use std::test::Fail;
 use tenant_refs::{ChangesFault, RefChange, RefName, Refs};
+
+// A test on refs of which there are none yet.
+#[derive(Clone, Copy)]
+enum Turn {
+    Lists,
+    Copies,
+    Merges,
+}
 
 // Refs in the order in which they are set, each with the byte that fills its target.
 const SET: &[(&[u8], u8)] = &[
@@ -170,41 +180,35 @@ fn are_merged(alloc: Global, refs: &mut Refs) -> Result<bool, Fail> {
     Ok(is_refused && !is_limited(refs, changes, AFTER.len()) && lists_all(refs, AFTER))
 }
 
-fn new_refs_are_merged(alloc: Global) -> Result<bool, Fail> {
-    let mut refs = Refs::new(alloc);
-    let are_merged = are_merged(alloc, &mut refs);
-    drop(refs);
-    are_merged
+fn goes_in_turn(alloc: Global, refs: &mut Refs, turn: Turn) -> Result<bool, Fail> {
+    match turn {
+        Turn::Lists => goes_in_order(alloc, refs),
+        Turn::Copies => stays_beside_a_copy(alloc, refs),
+        Turn::Merges => are_merged(alloc, refs),
+    }
 }
 
-fn new_refs_go_in_order(alloc: Global) -> Result<bool, Fail> {
+fn new_refs_go(alloc: Global, turn: Turn) -> Result<bool, Fail> {
     let mut refs = Refs::new(alloc);
-    let goes = goes_in_order(alloc, &mut refs);
+    let go = goes_in_turn(alloc, &mut refs, turn);
     drop(refs);
-    goes
-}
-
-fn new_refs_stay_beside_a_copy(alloc: Global) -> Result<bool, Fail> {
-    let mut refs = Refs::new(alloc);
-    let stays = stays_beside_a_copy(alloc, &mut refs);
-    drop(refs);
-    stays
+    go
 }
 
 #[test]
 fn lists_refs_by_their_bytes(rt: HostRuntime) -> Result<(), Fail> {
-    assert!(rt; new_refs_go_in_order(rt.alloc())?);
+    assert!(rt; new_refs_go(rt.alloc(), Turn::Lists)?);
     Ok(())
 }
 
 #[test]
 fn changes_a_copy_alone(rt: HostRuntime) -> Result<(), Fail> {
-    assert!(rt; new_refs_stay_beside_a_copy(rt.alloc())?);
+    assert!(rt; new_refs_go(rt.alloc(), Turn::Copies)?);
     Ok(())
 }
 
 #[test]
 fn merges_many_changes(rt: HostRuntime) -> Result<(), Fail> {
-    assert!(rt; new_refs_are_merged(rt.alloc())?);
+    assert!(rt; new_refs_go(rt.alloc(), Turn::Merges)?);
     Ok(())
 }

@@ -2,9 +2,11 @@
 //! object and one that names none. `git rev-parse --verify` answers the same where its rules are
 //! the same.
 
-use crate::fields::{field, is_number, side};
+mod logs;
+
+use crate::history::fields::{field, is_number, side};
+use crate::history::made_by_git::is_named;
 use crate::history::{History, MAIN, REFS, sets_all, sets_head};
-use crate::made_by_git::is_named;
 use git_objects::{Name, Naming, Sha1Naming};
 use revisions::{Fault, resolve};
 use std::alloc::Global;
@@ -21,153 +23,147 @@ struct Case {
 }
 
 // Each suffix, with a yes and a no.
-const SUFFIXES: &[u8] = b"\
-    MERGE|main;\
-    SECOND|main^;\
-    SECOND|main^1;\
-    THIRD|main^2;\
-    16|main^3;\
-    MERGE|main^0;\
-    MERGE|main^00;\
-    SECOND|main^01;\
-    THIRD|main^0000000002;\
-    3|main^00000000002;\
-    16|main^4294967295;\
-    3|main^4294967296;\
-    FIRST|main^^;\
-    16|main^^^;\
-    SECOND|main~;\
-    MERGE|main~0;\
-    FIRST|main~2;\
-    16|main~3;\
-    3|main~00000000001;\
-    16|main~4294967295;\
-    FIRST|main^2~1;\
-    16|main~1^2;\
-    SECOND|v1^;\
-    MERGE|v1^0;\
-    THIRD|vv^2;\
-    15|blob^;\
-    15|blob~0;\
-    16|main:a.txt^;\
-    MERGE|main^{commit};\
-    MERGE|v1^{commit};\
-    MERGE|vv^{commit};\
-    15|blob^{commit};\
-    SECOND_TREE|main^{tree};\
-    SECOND_TREE|vv^{tree};\
-    15|blob^{tree};\
-    15|main^{tree}^{commit};\
-    HELLO|blob^{blob};\
-    15|main^{blob};\
-    VV|vv^{tag};\
-    V1|v1^{tag};\
-    15|main^{tag};\
-    MERGE|vv^{};\
-    MERGE|v1^{};\
-    MERGE|main^{};\
-    HELLO|blob^{};\
-    VV|vv^{object};\
-    MERGE|main^{object};\
-    16|nothing^{object};\
-    3|main^{treex};\
-    3|main^{;\
-    3|main^-;\
-    3|main^x;\
-    3|main~x;\
-    3|main^{/x}";
-
 const OF_SUFFIXES: Case = Case {
     sight: Sight::All,
     head: MAIN,
     refs: REFS,
-    texts: SUFFIXES,
+    texts: b"\
+        MERGE|main;\
+        SECOND|main^;\
+        SECOND|main^1;\
+        THIRD|main^2;\
+        16|main^3;\
+        MERGE|main^0;\
+        MERGE|main^00;\
+        SECOND|main^01;\
+        THIRD|main^0000000002;\
+        3|main^00000000002;\
+        16|main^4294967295;\
+        3|main^4294967296;\
+        FIRST|main^^;\
+        16|main^^^;\
+        SECOND|main~;\
+        MERGE|main~0;\
+        FIRST|main~2;\
+        16|main~3;\
+        3|main~00000000001;\
+        16|main~4294967295;\
+        FIRST|main^2~1;\
+        16|main~1^2;\
+        SECOND|v1^;\
+        MERGE|v1^0;\
+        THIRD|vv^2;\
+        15|blob^;\
+        15|blob~0;\
+        16|main:a.txt^;\
+        MERGE|main^{commit};\
+        MERGE|v1^{commit};\
+        MERGE|vv^{commit};\
+        15|blob^{commit};\
+        SECOND_TREE|main^{tree};\
+        SECOND_TREE|vv^{tree};\
+        15|blob^{tree};\
+        15|main^{tree}^{commit};\
+        HELLO|blob^{blob};\
+        15|main^{blob};\
+        VV|vv^{tag};\
+        V1|v1^{tag};\
+        15|main^{tag};\
+        MERGE|vv^{};\
+        MERGE|v1^{};\
+        MERGE|main^{};\
+        HELLO|blob^{};\
+        VV|vv^{object};\
+        MERGE|main^{object};\
+        16|nothing^{object};\
+        3|main^{treex};\
+        3|main^{;\
+        3|main^-;\
+        3|main^x;\
+        3|main~x;\
+        3|main^{/x}",
 };
 
 // Paths, with a yes and a no.
-const PATHS: &[u8] = b"\
-    SECOND_TREE|main:;\
-    HELLO|main:a.txt;\
-    VERSION|main:a..b;\
-    DIRECTORY|main:dir;\
-    DEEP|main:dir/sub;\
-    VERSION|main:dir/sub/deep.txt;\
-    HELLO|main:\"a\";\
-    16|main:a;\
-    16|main:A.txt;\
-    16|main:a.txt/b;\
-    16|main:dir/deep.txt;\
-    FIRST|main:held;\
-    16|main:gone;\
-    16|main:held/a.txt;\
-    FIRST_TREE|main^2:;\
-    16|main^2:held;\
-    HELLO|vv:a.txt;\
-    HELLO|main^{tree}:a.txt;\
-    15|blob:a.txt;\
-    15|blob:;\
-    16|nothing:a.txt;\
-    3|main:/a.txt;\
-    3|main:dir/;\
-    3|main:dir//sub;\
-    3|main:./a.txt;\
-    3|main:dir/..;\
-    3|:a.txt;\
-    16|main:a.txt:b";
-
 const OF_PATHS: Case = Case {
     sight: Sight::All,
     head: MAIN,
     refs: REFS,
-    texts: PATHS,
+    texts: b"\
+        SECOND_TREE|main:;\
+        HELLO|main:a.txt;\
+        VERSION|main:a..b;\
+        DIRECTORY|main:dir;\
+        DEEP|main:dir/sub;\
+        VERSION|main:dir/sub/deep.txt;\
+        HELLO|main:\"a\";\
+        16|main:a;\
+        16|main:A.txt;\
+        16|main:a.txt/b;\
+        16|main:dir/deep.txt;\
+        FIRST|main:held;\
+        16|main:gone;\
+        16|main:held/a.txt;\
+        FIRST_TREE|main^2:;\
+        16|main^2:held;\
+        HELLO|vv:a.txt;\
+        HELLO|main^{tree}:a.txt;\
+        15|blob:a.txt;\
+        15|blob:;\
+        16|nothing:a.txt;\
+        3|main:/a.txt;\
+        3|main:dir/;\
+        3|main:dir//sub;\
+        3|main:./a.txt;\
+        3|main:dir/..;\
+        3|:a.txt;\
+        16|main:a.txt:b",
 };
 
 // HEAD, digits, and texts that are no base.
-const BASES: &[u8] = b"\
-    THIRD|HEAD;\
-    THIRD|@;\
-    FIRST|@^;\
-    FIRST|@~1;\
-    FIRST_TREE|@:;\
-    HELLO|@:a.txt;\
-    FIRST_TREE|@^{tree};\
-    THIRD|HEAD^{};\
-    16|@^2;\
-    16|@@;\
-    HELLO|ce013625030ba8dba906f756967f9e9ca394464a;\
-    HELLO|CE013625030BA8DBA906F756967F9E9CA394464A;\
-    16|1111111111111111111111111111111111111111;\
-    16|ce013625030ba8dba906f756967f9e9ca394464g;\
-    16|ce013625030ba8dba906f756967f9e9ca394464a0;\
-    VERSION|83ba;\
-    VERSION|83BA;\
-    VERSION|83baae61804e65cc73a7201a7252750c76066a3;\
-    16|83b;\
-    16|0000;\
-    17|ce01;\
-    HELLO|ce013;\
-    LATE|ce01d;\
-    FIRST_TREE|0d2596^{tree};\
-    MERGE|refs/heads/main;\
-    MERGE|heads/main;\
-    MERGE|main;\
-    16|Main;\
-    3|;\
-    3|^;\
-    3|~1;\
-    3|^1;\
-    3|main@{0};\
-    3|@{;\
-    3|@{u};\
-    16|main @;\
-    16|..;\
-    16|-";
-
 const OF_BASES: Case = Case {
     sight: Sight::All,
     head: b"refs/heads/side",
     refs: REFS,
-    texts: BASES,
+    texts: b"\
+        THIRD|HEAD;\
+        THIRD|@;\
+        FIRST|@^;\
+        FIRST|@~1;\
+        FIRST_TREE|@:;\
+        HELLO|@:a.txt;\
+        FIRST_TREE|@^{tree};\
+        THIRD|HEAD^{};\
+        16|@^2;\
+        16|@@;\
+        HELLO|ce013625030ba8dba906f756967f9e9ca394464a;\
+        HELLO|CE013625030BA8DBA906F756967F9E9CA394464A;\
+        16|1111111111111111111111111111111111111111;\
+        16|ce013625030ba8dba906f756967f9e9ca394464g;\
+        16|ce013625030ba8dba906f756967f9e9ca394464a0;\
+        VERSION|83ba;\
+        VERSION|83BA;\
+        VERSION|83baae61804e65cc73a7201a7252750c76066a3;\
+        16|83b;\
+        16|0000;\
+        17|ce01;\
+        HELLO|ce013;\
+        LATE|ce01d;\
+        FIRST_TREE|0d2596^{tree};\
+        MERGE|refs/heads/main;\
+        MERGE|heads/main;\
+        MERGE|main;\
+        16|Main;\
+        3|;\
+        3|^;\
+        3|~1;\
+        3|^1;\
+        3|main@{0};\
+        3|@{;\
+        3|@{u};\
+        16|main @;\
+        16|..;\
+        16|-",
 };
 
 // A HEAD whose ref is not there.
@@ -239,7 +235,30 @@ fn is_wanted(answer: Result<Name, Fault>, wanted: &[u8]) -> bool {
     }
 }
 
+// What is asked of a history: whether each text of a case names what the case says; or whether a
+// text names what the first of these refs holds, after that ref is removed what the second holds,
+// and so on, and nothing at the end.
+#[derive(Clone, Copy)]
+enum Asked<'a> {
+    AreNamed(&'a Case),
+    IsOrder(&'a [u8], &'a [u8]),
+}
+
+fn holds(alloc: Global, asked: Asked<'_>) -> bool {
+    let mut history = History::new(alloc, Sha1Naming);
+    let holds = history.holds(asked);
+    drop(history);
+    holds
+}
+
 impl<N: Naming> History<N> {
+    fn holds(&mut self, asked: Asked<'_>) -> bool {
+        match asked {
+            Asked::AreNamed(case) => self.are_named(case),
+            Asked::IsOrder(held, text) => self.is_order(held, text),
+        }
+    }
+
     fn are_named(&mut self, case: &Case) -> bool {
         self.takes_history() && self.are_named_beside_refs(case)
     }
@@ -302,21 +321,12 @@ impl<N: Naming> History<N> {
     }
 }
 
-// Whether each text of a case names what the case says.
 fn are_named(alloc: Global, case: &Case) -> bool {
-    let mut history = History::new(alloc, Sha1Naming);
-    let holds = history.are_named(case);
-    drop(history);
-    holds
+    holds(alloc, Asked::AreNamed(case))
 }
 
-// Whether a text names what the first of these refs holds; after that ref is removed, what the
-// second holds; and so on, and nothing at the end.
 fn is_order(alloc: Global, held: &[u8], text: &[u8]) -> bool {
-    let mut history = History::new(alloc, Sha1Naming);
-    let holds = history.is_order(held, text);
-    drop(history);
-    holds
+    holds(alloc, Asked::IsOrder(held, text))
 }
 
 #[test]

@@ -10,15 +10,19 @@
 //!
 //! A step adds an object that is no tree; puts a file or a gitlink; stores the tree of all that was
 //! put so far, which must get that name; or commits what is there. A name is a word of made_by_git.
+//! In contents, a time between two `%` stands for who wrote a commit then and who committed it.
+
+pub mod fields;
+pub mod made_by_git;
 
 ghost use Rattle.std.specs.Prelude.{◌≢◌};
 
-use crate::fields::{field, is, side};
-use crate::made_by_git::{FOUR_COMMITS, is_named, name_of};
 use content_pool::Pool;
+use fields::{field, is, side, takes_text};
 use file_maps::Entry;
 use git_objects::{FileMode, Kind, Name, Naming};
 use git_paths::Path;
+use made_by_git::{FOUR_COMMITS, is_named, name_of};
 use plain_files::Files;
 use std::alloc::Global;
 use std::marker::Model;
@@ -174,6 +178,15 @@ impl<N: Naming> History<N> {
     }
 
     fn adds(&mut self, kind: Kind, contents: &[u8]) -> bool
+        requires { kind ≢ Kind.Tree }
+    {
+        let mut text = Vec::new(self.alloc);
+        let holds = takes_text(&mut text, contents) && self.adds_text(kind, &text);
+        drop(text);
+        holds
+    }
+
+    fn adds_text(&mut self, kind: Kind, contents: &[u8]) -> bool
         requires { kind ≢ Kind.Tree }
     {
         self.table.add(&mut self.pool, kind, contents).is_ok()

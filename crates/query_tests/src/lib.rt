@@ -3,17 +3,9 @@
 #![tactic(auto)]
 
 #[cfg(test)]
-mod exports;
-#[cfg(test)]
 mod expressions;
 #[cfg(test)]
-mod fields;
-#[cfg(test)]
 mod history;
-#[cfg(test)]
-mod logs;
-#[cfg(test)]
-mod made_by_git;
 #[cfg(test)]
 mod missing;
 #[cfg(test)]

@@ -2,9 +2,9 @@
 //! `git rev-list --objects WANT..` without those of `git rev-list --objects HAVE..`, over the same
 //! objects in a repository, each by its own run, since one run with `^HAVE` may list more.
 
-use crate::fields::{field, is_number, word};
 use crate::history::History;
-use crate::made_by_git::{FOUR_COMMITS, SIX_COMMITS, is_named, name_of};
+use crate::history::fields::{field, is_number, word};
+use crate::history::made_by_git::{FOUR_COMMITS, SIX_COMMITS, is_named, name_of};
 use git_objects::{Name, Naming, Sha1Naming};
 use missing_objects::missing_places;
 use std::alloc::Global;

@@ -1,6 +1,8 @@
 //! What queries print, compared with what Git's commands print over the same objects and refs.
 
-use crate::fields::{field, is_number};
+mod exports;
+
+use crate::history::fields::{field, is_number};
 use crate::history::{History, REFS, sets_all};
 use answers::{answer, answer_along};
 use git_objects::{Naming, Sha1Naming};
@@ -164,15 +166,15 @@ impl<N: Naming> History<N> {
         self.are_printed_beside_refs(queries)
     }
 
+    fn are_printed_beside(&self, refs: &mut Refs, queries: &Queries) -> bool {
+        sets_all(refs, self.alloc, queries.refs) && self.prints_all(refs, queries.printed)
+    }
+
     fn are_printed_beside_refs(&self, queries: &Queries) -> bool {
         let mut refs = Refs::new(self.alloc);
         let holds = self.are_printed_beside(&mut refs, queries);
         drop(refs);
         holds
-    }
-
-    fn are_printed_beside(&self, refs: &mut Refs, queries: &Queries) -> bool {
-        sets_all(refs, self.alloc, queries.refs) && self.prints_all(refs, queries.printed)
     }
 
     fn prints_all(&self, refs: &Refs, queries: &[u8]) -> bool {
@@ -219,6 +221,14 @@ impl<N: Naming> History<N> {
         let (pool, table) = (&self.pool, &self.table);
         code_of(answer(self.alloc, pool, table, refs, query, out))
     }
+}
+
+// Whether each query prints the wanted text.
+fn are_printed(alloc: Global, queries: &Queries) -> bool {
+    let mut history = History::new(alloc, Sha1Naming);
+    let holds = history.are_printed(queries);
+    drop(history);
+    holds
 }
 
 // ---- along the first parents that earlier queries met
@@ -296,14 +306,6 @@ impl<N: Naming> History<N> {
         drop(out);
         holds
     }
-}
-
-// Whether each query prints the wanted text.
-fn are_printed(alloc: Global, queries: &Queries) -> bool {
-    let mut history = History::new(alloc, Sha1Naming);
-    let holds = history.are_printed(queries);
-    drop(history);
-    holds
 }
 
 #[test]

@@ -21,9 +21,11 @@ use stream_grammar::{
 };
 use stream_lex::Item;
 
-/// What a parser does, in words and as rows.
+/// What a parser does, in words and as rows. If a case has a front, each of its rows comes after
+/// the rows of the front, in a stream of its own.
 pub struct Case {
     pub does: &'static str,
+    pub front: &'static str,
     pub rows: &'static str,
 }
 
@@ -305,6 +307,24 @@ impl Reading {
         }
         None
     }
+
+    // The same for rows that each come after this front.
+    fn first_wrong_after<'a>(&mut self, front: &str, rows: &'a str) -> Option<&'a str> {
+        for row in rows.split(';') {
+            if self.first_wrong(front).is_some() || !self.goes(row) {
+                return Some(row);
+            }
+        }
+        None
+    }
+
+    fn first_wrong_of(&mut self, case: &Case) -> Option<&'static str> {
+        if case.front.is_empty() {
+            self.first_wrong(case.rows)
+        } else {
+            self.first_wrong_after(case.front, case.rows)
+        }
+    }
 }
 
 fn mode_text(mode: FileMode) -> &'static [u8] {
@@ -333,10 +353,10 @@ fn is_number(text: &[u8]) -> bool {
     text.iter().all(|byte| byte.is_ascii_digit())
 }
 
-// The first of the rows that has another answer.
-fn first_wrong<'a>(alloc: Global, rows: &'a str) -> Option<&'a str> {
+// The first row of a case that has another answer.
+fn first_wrong(alloc: Global, case: &Case) -> Option<&'static str> {
     let mut reading = begin(alloc);
-    let wrong = reading.first_wrong(rows);
+    let wrong = reading.first_wrong_of(case);
     drop(reading);
     wrong
 }
@@ -344,7 +364,7 @@ fn first_wrong<'a>(alloc: Global, rows: &'a str) -> Option<&'a str> {
 /// The first case that fails: what it does, and the row at which it fails.
 pub fn first_wrong_case(alloc: Global, cases: &[Case]) -> Option<(&'static str, &'static str)> {
     for case in cases {
-        if let Some(row) = first_wrong(alloc, case.rows) {
+        if let Some(row) = first_wrong(alloc, case) {
             return Some((case.does, row));
         }
     }

@@ -63,6 +63,15 @@ fn end_of(lexer: &Lexer) -> &'static [u8] {
     }
 }
 
+// A test on a new lexer. A delimited data is made of these line ends.
+#[derive(Clone, Copy)]
+enum Turn<'a> {
+    SearchesALine,
+    SearchesAData,
+    TakesTheLargestData(&'a [u8]),
+    RefusesALargerData(&'a [u8]),
+}
+
 // A lexer, and what it gave so far.
 #[derive(Drop)]
 struct Reading {
@@ -165,6 +174,15 @@ impl Reading {
         self.feed_large_data(lines, b"x\nE");
         self.shown.is_empty() && self.lexer.end() == Err(Fault::Limit)
     }
+
+    fn goes(&mut self, turn: Turn<'_>) -> bool {
+        match turn {
+            Turn::SearchesALine => self.searches_a_line_once(),
+            Turn::SearchesAData => self.searches_a_data_once(),
+            Turn::TakesTheLargestData(lines) => self.takes_the_largest_data(lines),
+            Turn::RefusesALargerData(lines) => self.refuses_a_larger_data(lines),
+        }
+    }
 }
 
 fn begin(alloc: Global) -> Reading {
@@ -221,39 +239,18 @@ fn refuses_a_long_comment(alloc: Global) -> bool {
     comment.resize(1_048_575, b'#').is_ok() && limits_a_comment(alloc, &comment)
 }
 
-fn searches_a_line_once(alloc: Global) -> bool {
+fn new_reading_goes(alloc: Global, turn: Turn<'_>) -> bool {
     let mut reading = begin(alloc);
-    let is_once = reading.searches_a_line_once();
+    let goes = reading.goes(turn);
     drop(reading);
-    is_once
-}
-
-fn searches_a_data_once(alloc: Global) -> bool {
-    let mut reading = begin(alloc);
-    let is_once = reading.searches_a_data_once();
-    drop(reading);
-    is_once
-}
-
-fn takes_the_largest_data(alloc: Global, lines: &[u8]) -> bool {
-    let mut reading = begin(alloc);
-    let takes = reading.takes_the_largest_data(lines);
-    drop(reading);
-    takes
-}
-
-fn refuses_a_larger_data(alloc: Global, lines: &[u8]) -> bool {
-    let mut reading = begin(alloc);
-    let refuses = reading.refuses_a_larger_data(lines);
-    drop(reading);
-    refuses
+    goes
 }
 
 fn limits_a_delimited_data(alloc: Global) -> bool {
     let mut lines = Vec::new(alloc);
     lines.resize(65_535, b'\n').is_ok()
-        && takes_the_largest_data(alloc, &lines)
-        && refuses_a_larger_data(alloc, &lines)
+        && new_reading_goes(alloc, Turn::TakesTheLargestData(&lines))
+        && new_reading_goes(alloc, Turn::RefusesALargerData(&lines))
 }
 
 // Whether a fault has this message.
@@ -276,8 +273,8 @@ fn refuses_a_line_of_more_than_1048575_bytes(rt: HostRuntime) {
 
 #[test]
 fn searches_no_byte_twice(rt: HostRuntime) {
-    assert!(rt; searches_a_line_once(rt.alloc()));
-    assert!(rt; searches_a_data_once(rt.alloc()));
+    assert!(rt; new_reading_goes(rt.alloc(), Turn::SearchesALine));
+    assert!(rt; new_reading_goes(rt.alloc(), Turn::SearchesAData));
 }
 
 #[test]

@@ -1,7 +1,7 @@
 //! A table and a plain table, each over its own pool, taken through the same steps.
 
+use super::plain_table::PlainTable;
 use super::told;
-use crate::plain_table::PlainTable;
 use content_pool::Pool;
 use git_objects::{Kind, Memory, Name, Naming, TailNaming};
 use std::alloc::Global;
@@ -57,16 +57,6 @@ impl<N: Naming> Beside<N> {
         }
     }
 
-    // Apart from the function that owns the two: each way out of an owner makes its proof longer.
-    fn first_unlike(&mut self, steps: &[Step<'_>]) -> Result<Option<usize>, Memory> {
-        for (place, step) in steps.iter().enumerate() {
-            if !self.stays_alike(step)? {
-                return Ok(Some(place));
-            }
-        }
-        Ok(None)
-    }
-
     // Whether a step goes as it says, and leaves both alike.
     fn stays_alike(&mut self, step: &Step<'_>) -> Result<bool, Memory> {
         let goes = self.takes(step)?;
@@ -81,6 +71,16 @@ impl<N: Naming> Beside<N> {
             Step::Length(count) => return Ok(self.len() == *count),
         }
         Ok(true)
+    }
+
+    // Apart from the function that owns the two: each way out of an owner makes its proof longer.
+    fn first_unlike(&mut self, steps: &[Step<'_>]) -> Result<Option<usize>, Memory> {
+        for (place, step) in steps.iter().enumerate() {
+            if !self.stays_alike(step)? {
+                return Ok(Some(place));
+            }
+        }
+        Ok(None)
     }
 
     // Whether both answer the same when these bytes are added.

@@ -213,14 +213,17 @@ const OTHER_CHANGES: &str = "COMMIT => open - m;\
 const CASES: &[Case] = &[
     Case {
         does: "reads modified files",
+        front: "",
         rows: MODIFIED,
     },
     Case {
         does: "reads files whose data follow",
+        front: "",
         rows: INLINE,
     },
     Case {
         does: "reads other changes",
+        front: "",
         rows: OTHER_CHANGES,
     },
 ];

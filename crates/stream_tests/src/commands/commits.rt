@@ -36,144 +36,83 @@ const HEADERS: &str = "commit refs/heads/m => commit refs/heads/m;\
     commit main => 11;\
     commit refs/namespaces/x/refs/heads/y => 11";
 
+// What comes before each row of some cases.
+const BRANCH: &str = "commit refs/heads/m => commit refs/heads/m";
+
 // Each of these comes in the place of the committer.
-const BEFORE_THE_COMMITTER: &str = "commit refs/heads/m => commit refs/heads/m;\
-    data m => 5;\
-    commit refs/heads/m => commit refs/heads/m;\
+const BEFORE_THE_COMMITTER: &str = "data m => 5;\
     encoding x => 5;\
-    commit refs/heads/m => commit refs/heads/m;\
     encoding  => 5;\
-    commit refs/heads/m => commit refs/heads/m;\
     from :1 => 5;\
-    commit refs/heads/m => commit refs/heads/m;\
     from :0 => 5;\
-    commit refs/heads/m => commit refs/heads/m;\
     merge :1 => 5;\
-    commit refs/heads/m => commit refs/heads/m;\
     M 644 :1 a => 5;\
-    commit refs/heads/m => commit refs/heads/m;\
     M 9 => 5;\
-    commit refs/heads/m => commit refs/heads/m;\
     LF => 5;\
-    commit refs/heads/m => commit refs/heads/m;\
     deleteall => 5;\
-    commit refs/heads/m => commit refs/heads/m;\
     cat-blob :1 => 5;\
-    commit refs/heads/m => commit refs/heads/m;\
     ls \"a\" => 5;\
-    commit refs/heads/m => commit refs/heads/m;\
     commit refs/heads/m => 5;\
-    commit refs/heads/m => commit refs/heads/m;\
     blob => 5;\
-    commit refs/heads/m => commit refs/heads/m;\
     done => 5;\
-    commit refs/heads/m => commit refs/heads/m;\
     feature done => 5;\
-    commit refs/heads/m => commit refs/heads/m;\
     option x => 5;\
-    commit refs/heads/m => commit refs/heads/m;\
     option git quiet => 5;\
-    commit refs/heads/m => commit refs/heads/m;\
     progress x => 5;\
-    commit refs/heads/m => commit refs/heads/m;\
     get-mark :1 => 5;\
-    commit refs/heads/m => commit refs/heads/m;\
     alias => 5;\
-    commit refs/heads/m => commit refs/heads/m;\
     tagger A <a@b> 0 +0000 => 5;\
-    commit refs/heads/m => commit refs/heads/m;\
     unknown => 5;\
-    commit refs/heads/m => commit refs/heads/m;\
     author => 5;\
-    commit refs/heads/m => commit refs/heads/m;\
     committer => 5;\
-    commit refs/heads/m => commit refs/heads/m;\
     END => 5";
 
-const WRONG_ORDER: &str = "commit refs/heads/m => commit refs/heads/m;\
-    mark :1 => wait;\
-    mark :2 => 5;\
-    commit refs/heads/m => commit refs/heads/m;\
-    original-oid x => wait;\
-    mark :1 => 5;\
-    commit refs/heads/m => commit refs/heads/m;\
-    original-oid x => wait;\
-    original-oid y => 5;\
-    commit refs/heads/m => commit refs/heads/m;\
-    author A <a@b> 0 +0000 => author A <a@b> 0 +0000;\
-    author A <a@b> 0 +0000 => 5;\
-    commit refs/heads/m => commit refs/heads/m;\
-    author A <a@b> 0 +0000 => author A <a@b> 0 +0000;\
+const MARKED: &str = "commit refs/heads/m => commit refs/heads/m;\
+    mark :1 => wait";
+
+const NAMED_BEFORE: &str = "commit refs/heads/m => commit refs/heads/m;\
+    original-oid x => wait";
+
+const WRITTEN: &str = "commit refs/heads/m => commit refs/heads/m;\
+    author A <a@b> 0 +0000 => author A <a@b> 0 +0000";
+
+const COMMITTED: &str = "commit refs/heads/m => commit refs/heads/m;\
+    committer A <a@b> 0 +0000 => committer A <a@b> 0 +0000";
+
+const ENCODED: &str = "commit refs/heads/m => commit refs/heads/m;\
+    committer A <a@b> 0 +0000 => committer A <a@b> 0 +0000;\
+    encoding x => encoding x";
+
+const AFTER_THE_AUTHOR: &str = "author A <a@b> 0 +0000 => 5;\
     original-oid x => 5;\
-    commit refs/heads/m => commit refs/heads/m;\
-    author A <a@b> 0 +0000 => author A <a@b> 0 +0000;\
-    data m => 5;\
-    commit refs/heads/m => commit refs/heads/m;\
-    committer A <a@b> 0 +0000 => committer A <a@b> 0 +0000;\
-    author A <a@b> 0 +0000 => 5;\
-    commit refs/heads/m => commit refs/heads/m;\
-    committer A <a@b> 0 +0000 => committer A <a@b> 0 +0000;\
+    data m => 5";
+
+const AFTER_THE_COMMITTER: &str = "author A <a@b> 0 +0000 => 5;\
     author bad => 5;\
-    commit refs/heads/m => commit refs/heads/m;\
-    committer A <a@b> 0 +0000 => committer A <a@b> 0 +0000;\
     committer A <a@b> 0 +0000 => 5;\
-    commit refs/heads/m => commit refs/heads/m;\
-    committer A <a@b> 0 +0000 => committer A <a@b> 0 +0000;\
     LF => 5;\
-    commit refs/heads/m => commit refs/heads/m;\
-    committer A <a@b> 0 +0000 => committer A <a@b> 0 +0000;\
     from :1 => 5;\
-    commit refs/heads/m => commit refs/heads/m;\
-    committer A <a@b> 0 +0000 => committer A <a@b> 0 +0000;\
-    encoding x => encoding x;\
-    encoding y => 5;\
-    commit refs/heads/m => commit refs/heads/m;\
-    committer A <a@b> 0 +0000 => committer A <a@b> 0 +0000;\
-    encoding x => encoding x;\
-    END => 5;\
-    commit refs/heads/m => commit refs/heads/m;\
-    committer A <a@b> 0 +0000 => committer A <a@b> 0 +0000;\
     encoding  => 3";
 
-const IDENTS: &str = "commit refs/heads/m => commit refs/heads/m;\
-    author A => 21;\
-    commit refs/heads/m => commit refs/heads/m;\
+const IDENTS: &str = "author A => 21;\
     author A <a@b> now => 22;\
-    commit refs/heads/m => commit refs/heads/m;\
     committer  => 21;\
-    commit refs/heads/m => commit refs/heads/m;\
     committer A <a@b> => 21;\
-    commit refs/heads/m => commit refs/heads/m;\
     committer A <a@b>0 +0000 => 21;\
-    commit refs/heads/m => commit refs/heads/m;\
     committer A a@b> 0 +0000 => 21;\
-    commit refs/heads/m => commit refs/heads/m;\
     committer A <a@b 0 +0000 => 21;\
-    commit refs/heads/m => commit refs/heads/m;\
     committer A <a<b> 0 +0000 => 21;\
-    commit refs/heads/m => commit refs/heads/m;\
     committer A<a@b> 0 +0000 => 21;\
-    commit refs/heads/m => commit refs/heads/m;\
     committer A > <a@b> 0 +0000 => 21;\
-    commit refs/heads/m => commit refs/heads/m;\
     committer A <a@b>  => 22;\
-    commit refs/heads/m => commit refs/heads/m;\
     committer A <a@b> 0 => 22;\
-    commit refs/heads/m => commit refs/heads/m;\
     committer A <a@b> 18446744073709551616 +0000 => 22;\
-    commit refs/heads/m => commit refs/heads/m;\
     committer A <a@b> 000000000000000000000 +0000 => 22;\
-    commit refs/heads/m => commit refs/heads/m;\
     committer A <a@b> -1 +0000 => 22;\
-    commit refs/heads/m => commit refs/heads/m;\
     committer A <a@b> 0 0000 => 22;\
-    commit refs/heads/m => commit refs/heads/m;\
     committer A <a@b> 0 +000 => 22;\
-    commit refs/heads/m => commit refs/heads/m;\
     committer A <a@b> 0 +00000 => 22;\
-    commit refs/heads/m => commit refs/heads/m;\
     committer A <a@b> 0  +0000 => 22;\
-    commit refs/heads/m => commit refs/heads/m;\
     committer A <a@b> 0 +0000  => 22";
 
 const ENDS: &str = "COMMIT => open - m;\
@@ -219,62 +158,78 @@ const ENDS: &str = "COMMIT => open - m;\
     merge :1 => 2;\
     COMMIT => open - m;\
     cat-blob :1 => show :1;\
-    from :1 => 2;\
-    COMMIT => open - m;\
-    mark :1 => 2;\
-    COMMIT => open - m;\
+    from :1 => 2";
+
+const MESSAGE: &str = "COMMIT => open - m";
+
+const AFTER_THE_MESSAGE: &str = "mark :1 => 2;\
     author A <a@b> 0 +0000 => 2;\
-    COMMIT => open - m;\
     committer A <a@b> 0 +0000 => 2;\
-    COMMIT => open - m;\
     encoding x => 2;\
-    COMMIT => open - m;\
     original-oid x => 2;\
-    COMMIT => open - m;\
     tagger A <a@b> 0 +0000 => 2;\
-    COMMIT => open - m;\
     to :1 => 2;\
-    COMMIT => open - m;\
     data x => 2;\
-    COMMIT => open - m;\
     unknown => 2;\
-    COMMIT => open - m;\
     from => 2;\
-    COMMIT => open - m;\
     N :1 :1 => 2;\
-    COMMIT => open - m;\
     feature done => 9;\
-    COMMIT => open - m;\
     option git quiet => 9;\
-    COMMIT => open - m;\
     tag .v => 11;\
-    COMMIT => open - m;\
     get-mark 5 => 3;\
-    COMMIT => open - m;\
     from :0 => 12;\
-    COMMIT => open - m;\
     merge : => 12";
 
 const CASES: &[Case] = &[
     Case {
         does: "reads headers of commits",
+        front: "",
         rows: HEADERS,
     },
     Case {
         does: "misses the committer whatever stands in its place",
+        front: BRANCH,
         rows: BEFORE_THE_COMMITTER,
     },
     Case {
-        does: "misses a part where another stands in its place",
-        rows: WRONG_ORDER,
+        does: "misses a part after a mark",
+        front: MARKED,
+        rows: "mark :2 => 5",
+    },
+    Case {
+        does: "misses a part after an original name",
+        front: NAMED_BEFORE,
+        rows: "mark :1 => 5;original-oid y => 5",
+    },
+    Case {
+        does: "misses the committer after an author",
+        front: WRITTEN,
+        rows: AFTER_THE_AUTHOR,
+    },
+    Case {
+        does: "misses the message after a committer",
+        front: COMMITTED,
+        rows: AFTER_THE_COMMITTER,
+    },
+    Case {
+        does: "misses the message after an encoding",
+        front: ENCODED,
+        rows: "encoding y => 5;END => 5",
     },
     Case {
         does: "tells a bad identity from a bad date",
+        front: BRANCH,
         rows: IDENTS,
     },
     Case {
         does: "ends a commit where nothing of it stands",
+        front: "",
         rows: ENDS,
+    },
+    Case {
+        does: "knows what ends no commit",
+        front: MESSAGE,
+        rows: AFTER_THE_MESSAGE,
     },
 ];
 

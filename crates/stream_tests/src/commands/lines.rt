@@ -21,53 +21,28 @@ const BLOBS: &str = "blob => wait;\
     data x => blob :42 x;\
     data y => 2;\
     blob => wait;\
-    END => 5;\
-    blob => wait;\
     mark :1 => wait;\
     END => 5;\
     blob => wait;\
     mark :1 => wait;\
-    mark :2 => 5;\
-    blob => wait;\
-    original-oid x => wait;\
-    mark :1 => 5;\
-    blob => wait;\
-    original-oid x => wait;\
-    mark 5 => 5;\
-    blob => wait;\
-    original-oid x => wait;\
-    original-oid y => 5;\
-    blob => wait;\
+    mark :2 => 5";
+
+const AFTER_A_BLOB: &str = "END => 5;\
     LF => 5;\
-    blob => wait;\
     blob => 5;\
-    blob => wait;\
     done => 5;\
-    blob => wait;\
     feature done => 5;\
-    blob => wait;\
     option x => 5;\
-    blob => wait;\
     from :1 => 5;\
-    blob => wait;\
     mark => 5;\
-    blob => wait;\
     original-oid => 5;\
-    blob => wait;\
     mark 5 => 3;\
-    blob => wait;\
     mark  => 3;\
-    blob => wait;\
     mark : => 12;\
-    blob => wait;\
     mark :x => 12;\
-    blob => wait;\
     mark :0 => 12;\
-    blob => wait;\
     mark :1  => 12;\
-    blob => wait;\
     mark :18446744073709551616 => 12;\
-    blob => wait;\
     mark :000000000000000000001 => 12";
 
 const ONE_LINE: &str = "checkpoint => checkpoint;\
@@ -227,18 +202,32 @@ const FEATURES: &str = "feature done => require done;\
 const CASES: &[Case] = &[
     Case {
         does: "reads blobs",
+        front: "",
         rows: BLOBS,
     },
     Case {
+        does: "misses the contents of a blob",
+        front: "blob => wait",
+        rows: AFTER_A_BLOB,
+    },
+    Case {
+        does: "takes no second name of a blob",
+        front: "blob => wait;original-oid x => wait",
+        rows: "mark :1 => 5;mark 5 => 5;original-oid y => 5",
+    },
+    Case {
         does: "reads commands of one line",
+        front: "",
         rows: ONE_LINE,
     },
     Case {
         does: "knows no other line where no command is open",
+        front: "",
         rows: UNKNOWN,
     },
     Case {
         does: "reads features and options before other commands",
+        front: "",
         rows: FEATURES,
     },
 ];

@@ -27,54 +27,33 @@ const TAGS: &str = "tag v => tag refs/tags/v;\
     tag a.lock => 11;\
     tag v => tag refs/tags/v;\
     mark :1 => wait;\
-    mark :2 => 5;\
-    tag v => tag refs/tags/v;\
-    data m => 5;\
-    tag v => tag refs/tags/v;\
+    mark :2 => 5";
+
+// What comes before each row of some cases.
+const BEGUN: &str = "tag v => tag refs/tags/v";
+
+const AIMED: &str = "tag v => tag refs/tags/v;\
+    from :1 => target :1";
+
+const TAGGED: &str = "tag v => tag refs/tags/v;\
+    from :1 => target :1;\
+    tagger A <a@b> 0 +0000 => tagger A <a@b> 0 +0000";
+
+const AFTER_THE_NAME: &str = "data m => 5;\
     tagger A <a@b> 0 +0000 => 5;\
-    tag v => tag refs/tags/v;\
     original-oid x => 5;\
-    tag v => tag refs/tags/v;\
-    from :1 => target :1;\
-    mark :1 => 5;\
-    tag v => tag refs/tags/v;\
-    from :1 => target :1;\
+    END => 5;\
+    from :0 => 12";
+
+const AFTER_THE_TARGET: &str = "mark :1 => 5;\
     from :2 => 5;\
-    tag v => tag refs/tags/v;\
-    from :1 => target :1;\
-    tagger A <a@b> 0 +0000 => tagger A <a@b> 0 +0000;\
-    original-oid x => 5;\
-    tag v => tag refs/tags/v;\
-    from :1 => target :1;\
-    tagger A <a@b> 0 +0000 => tagger A <a@b> 0 +0000;\
-    tagger A <a@b> 0 +0000 => 5;\
-    tag v => tag refs/tags/v;\
-    from :1 => target :1;\
     LF => 5;\
-    tag v => tag refs/tags/v;\
-    from :1 => target :1;\
     merge :1 => 5;\
-    tag v => tag refs/tags/v;\
-    from :1 => target :1;\
     author A <a@b> 0 +0000 => 5;\
-    tag v => tag refs/tags/v;\
-    from :1 => target :1;\
     END => 5;\
-    tag v => tag refs/tags/v;\
-    END => 5;\
-    tag v => tag refs/tags/v;\
-    from :0 => 12;\
-    tag v => tag refs/tags/v;\
-    from :1 => target :1;\
     tagger A<a@b> 0 +0000 => 21;\
-    tag v => tag refs/tags/v;\
-    from :1 => target :1;\
     tagger A <a@b>0 +0000 => 21;\
-    tag v => tag refs/tags/v;\
-    from :1 => target :1;\
     tagger A <a@b> x => 22;\
-    tag v => tag refs/tags/v;\
-    from :1 => target :1;\
     tagger => 5";
 
 const RESETS: &str = "reset refs/heads/m => reset refs/heads/m;\
@@ -96,20 +75,6 @@ const RESETS: &str = "reset refs/heads/m => reset refs/heads/m;\
     reset refs/heads/m => reset refs/heads/m;\
     from :1 => reset-to :1;\
     from :2 => 2;\
-    reset refs/heads/m => reset refs/heads/m;\
-    mark :1 => 2;\
-    reset refs/heads/m => reset refs/heads/m;\
-    merge :1 => 2;\
-    reset refs/heads/m => reset refs/heads/m;\
-    data x => 2;\
-    reset refs/heads/m => reset refs/heads/m;\
-    feature done => 9;\
-    reset refs/heads/m => reset refs/heads/m;\
-    from :0 => 12;\
-    reset refs/heads/m => reset refs/heads/m;\
-    from : => 12;\
-    reset refs/heads/m => reset refs/heads/m;\
-    from :x => 12;\
     reset  => 11;\
     reset main => 11;\
     reset head => 11;\
@@ -133,6 +98,16 @@ const RESETS: &str = "reset refs/heads/m => reset refs/heads/m;\
     reset refs/heads/a\\b => 11;\
     reset refs/namespaces/x/refs/heads/y => 11";
 
+const RESET: &str = "reset refs/heads/m => reset refs/heads/m";
+
+const AFTER_A_RESET: &str = "mark :1 => 2;\
+    merge :1 => 2;\
+    data x => 2;\
+    feature done => 9;\
+    from :0 => 12;\
+    from : => 12;\
+    from :x => 12";
+
 const ALIASES: &str = "alias => wait;\
     mark :7 => wait;\
     to refs/heads/m => set :7 <refs/heads/m>;\
@@ -143,54 +118,69 @@ const ALIASES: &str = "alias => wait;\
     alias => wait;\
     mark :1 => wait;\
     to  => set :1 <>;\
-    feature done => 9;\
-    alias => wait;\
-    to x => 5;\
-    alias => wait;\
+    feature done => 9";
+
+const AFTER_AN_ALIAS: &str = "to x => 5;\
     LF => 5;\
-    alias => wait;\
     data x => 5;\
-    alias => wait;\
     alias => 5;\
-    alias => wait;\
     from :1 => 5;\
-    alias => wait;\
     END => 5;\
-    alias => wait;\
     mark 1 => 3;\
-    alias => wait;\
-    mark :0 => 12;\
-    alias => wait;\
-    mark :1 => wait;\
-    LF => 5;\
-    alias => wait;\
-    mark :1 => wait;\
+    mark :0 => 12";
+
+const AFTER_ITS_MARK: &str = "LF => 5;\
     mark :2 => 5;\
-    alias => wait;\
-    mark :1 => wait;\
     data x => 5;\
-    alias => wait;\
-    mark :1 => wait;\
     to => 5;\
-    alias => wait;\
-    mark :1 => wait;\
     to :0 => 12;\
-    alias => wait;\
-    mark :1 => wait;\
     END => 5";
 
 const CASES: &[Case] = &[
     Case {
         does: "reads tags",
+        front: "",
         rows: TAGS,
     },
     Case {
+        does: "misses the target after the name of a tag",
+        front: BEGUN,
+        rows: AFTER_THE_NAME,
+    },
+    Case {
+        does: "misses the message after a target",
+        front: AIMED,
+        rows: AFTER_THE_TARGET,
+    },
+    Case {
+        does: "misses the message after a tagger",
+        front: TAGGED,
+        rows: "original-oid x => 5;tagger A <a@b> 0 +0000 => 5",
+    },
+    Case {
         does: "reads resets",
+        front: "",
         rows: RESETS,
     },
     Case {
+        does: "takes one target after a reset",
+        front: RESET,
+        rows: AFTER_A_RESET,
+    },
+    Case {
         does: "reads aliases",
+        front: "",
         rows: ALIASES,
+    },
+    Case {
+        does: "misses the mark of an alias",
+        front: "alias => wait",
+        rows: AFTER_AN_ALIAS,
+    },
+    Case {
+        does: "misses the target of an alias",
+        front: "alias => wait;mark :1 => wait",
+        rows: AFTER_ITS_MARK,
     },
 ];
 

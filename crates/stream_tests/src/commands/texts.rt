@@ -38,12 +38,15 @@ fn is_answered(alloc: Global, front: &[u8], count: usize, wanted: u16) -> bool {
 
 // The number of `x` in the first line with another answer.
 fn first_wrong(alloc: Global) -> Option<usize> {
-    for (front, count, wanted) in LONG_LINES {
-        if !is_answered(alloc, front, *count, *wanted) {
-            return Some(*count);
-        }
-    }
-    None
+    let row = LONG_LINES
+        .iter()
+        .find(|row| !is_answered(alloc, row.0, row.1, row.2))?;
+    Some(row.1)
+}
+
+#[test]
+fn refuses_a_ref_of_1025_bytes_and_a_path_of_16384_after_its_rules(rt: HostRuntime) {
+    assert_eq!(rt; first_wrong(rt.alloc()), None);
 }
 
 // Alone, the first line is malformed, and the others are not.
@@ -63,31 +66,25 @@ impl Reading {
         }
         self.end() && self.shown.is(b"3")
     }
+
+    // Each with a new parser.
+    fn keeps_bytes_and_then_its_fault(&mut self) -> bool {
+        let keeps = self.keeps_other_bytes_of_an_ident();
+        self.begin_anew();
+        keeps && self.answers_its_fault_from_then_on()
+    }
 }
 
-fn keeps_other_bytes_of_an_ident(alloc: Global) -> bool {
+fn keep_bytes_and_faults(alloc: Global) -> bool {
     let mut reading = begin(alloc);
-    let keeps = reading.keeps_other_bytes_of_an_ident();
+    let keep = reading.keeps_bytes_and_then_its_fault();
     drop(reading);
-    keeps
-}
-
-fn answers_its_fault_from_then_on(alloc: Global) -> bool {
-    let mut reading = begin(alloc);
-    let answers = reading.answers_its_fault_from_then_on();
-    drop(reading);
-    answers
-}
-
-#[test]
-fn refuses_a_ref_of_1025_bytes_and_a_path_of_16384_after_its_rules(rt: HostRuntime) {
-    assert_eq!(rt; first_wrong(rt.alloc()), None);
+    keep
 }
 
 #[test]
 fn answers_by_all_bytes_and_numbers_its_faults(rt: HostRuntime) {
-    assert!(rt; keeps_other_bytes_of_an_ident(rt.alloc()));
-    assert!(rt; answers_its_fault_from_then_on(rt.alloc()));
+    assert!(rt; keep_bytes_and_faults(rt.alloc()));
     assert_eq!(rt; Fault::Malformed.code(), 3);
     assert_eq!(rt; (Fault::BadMode.code(), Fault::Memory.code()), (23, 90));
 }

@@ -1,0 +1,31 @@
+//! The tests, by what they test, and what they share.
+
+mod asking;
+mod by_sum;
+mod compactions;
+mod copies;
+mod devices;
+mod exports;
+mod frames;
+mod held;
+mod hosted_packs;
+mod hosting;
+mod limits;
+mod memory_place;
+mod moves;
+mod one_byte;
+mod opened;
+mod packing;
+mod packs;
+mod removals;
+mod replies;
+mod rows;
+mod saved;
+mod saved_tenants;
+mod single_frames;
+mod sizes;
+mod stops;
+mod streams;
+mod told;
+mod twins;
+mod watched;
