@@ -107,7 +107,7 @@ class RedisServer:
         os.replace(os.path.join(self.folder, "clock.new"), os.path.join(self.folder, "clock"))
 
     def start(self, *more: str) -> None:
-        """Starts it, and waits until it answers and has loaded its file. A thread of its allocator would go round and round where its clock is behind."""
+        """Starts it, and waits until it answers and has loaded its file. It has no thread for its allocator, which never rests where the clock is behind."""
         words = ["redis-server", *self.settings, "--port", str(self.port), "--bind", "127.0.0.1", "--dir", self.folder, "--logfile", "redis.log",
                  "--jemalloc-bg-thread", "no", *more]
         self.process = subprocess.Popen(words, stdout=subprocess.DEVNULL, env=self.environment())

@@ -1,6 +1,6 @@
 //! Commit-ishes: git-fast-import(1), "from".
 //!
-//! A commit-ish is looked up among the stream's marks and branches, all objects so far and the refs
+//! A commit-ish is looked up among the stream's marks and branches, the given objects and the refs
 //! as last saved. Nothing here changes them. The state keeps the commits of a walk for the next one.
 
 ghost use Rattle.std.specs.Prelude.{◌≡◌, List, ℕ};
@@ -46,7 +46,7 @@ fn words_named<N: Naming>(
 }
 
 /// The object that a commit-ish stands for: that of a mark, the commit of a branch of the stream,
-/// or what an expression names among all objects so far and the refs as last saved.
+/// or what an expression names among these objects and the refs as last saved.
 ///
 /// `Fault::MarkUnknown` (13) if the mark is not set; `Fault::UnknownRevision` (16) if the branch is
 /// at no commit. For an expression: `Fault::Malformed` (3) if it is none, `Fault::WrongKind` (15)

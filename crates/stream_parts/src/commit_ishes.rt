@@ -39,7 +39,7 @@ fn passed_on(given: Result<Name, revisions::Fault>) -> Result<Name, Fault>
     }
 }
 
-/// Peels an object to one of this kind, among all objects so far: gitrevisions(7),
+/// Peels an object to one of this kind, among these objects: gitrevisions(7),
 /// "<rev>^{<type>}".
 ///
 /// `Fault::WrongKind` (15) if it is peeled to none; `Fault::Memory` (90) if there is no memory to
@@ -90,7 +90,7 @@ fn resolve<N: Naming>(
     resolve_with_tags(alloc, objects, refs, chain, &expression)
 }
 
-/// What an expression names among all objects so far and the refs as last saved:
+/// What an expression names among these objects and the refs as last saved:
 /// gitrevisions(7). Each fault of `revisions` is passed on under the stream's number. The next call
 /// can use the chain that this one leaves, also if objects were added in between.
 pub fn resolve_words<N: Naming>(

@@ -66,7 +66,7 @@ fn print_content(id: Name, content: Option<(Kind, &[u8])>, out: &mut Vec<u8>) ->
     }
 }
 
-/// Prints the blob of this name, or that the table has no object of this name.
+/// Prints the blob of this name, or that there is no object of this name.
 pub fn print_object<N: Naming>(
     objects: &Objects<'_, N>,
     id: Name,
@@ -78,7 +78,7 @@ pub fn print_object<N: Naming>(
     print_content(id, objects.get(&id), out)
 }
 
-/// Prints the blob that a dataref stands for, or that the table has no such object:
+/// Prints the blob that a dataref stands for, or that there is no such object:
 /// git-fast-import(1), "cat-blob".
 ///
 /// `Fault::MarkUnknown` (13) if the mark is not set, `Fault::WrongKind` (15) if the object is no
