@@ -25,6 +25,7 @@ pub mod StandingGood
 pub mod ListedOrder
 pub mod StoredFiles
 pub mod StoredTable
+pub mod Backed
 pub mod GoodObjects
 pub mod GoodTrees
 mod GoodRepositoryExample

@@ -136,7 +136,7 @@ below-summary c (((d ∷ q), e) ∷ f ∷ fs) h =
     ∙ ap (table.both (path_summary (c ∷ d ∷ q))) (below-summary c (f ∷ fs) h.1)
     ∙ sym (files-first (c ∷ d ∷ q) e (moved (c ∷ []) (f ∷ fs)))
 
-other_kind : (k : Kind) → k ≢ kind.Tree → kind_fault k ≡ Some fault.WrongKind
+pub other_kind : (k : Kind) → k ≢ kind.Tree → kind_fault k ≡ Some fault.WrongKind
 other_kind kind.Tree ne = absurd (ne refl)
 other_kind kind.Blob ne = refl
 other_kind kind.Commit ne = refl
@@ -192,7 +192,7 @@ module _ (digest : List ℕ → List ℕ) (pool : Cells) (entries : Entries) (st
       )
 
   -- an object that is a tree has a summary
-  summary_at : (id : List ℕ) (c : Content) → object_named id (objects pool entries) ≡ Some c
+  pub summary_at : (id : List ℕ) (c : Content) → object_named id (objects pool entries) ≡ Some c
       → c.kind ≡ kind.Tree → (s : Summary) × (summary_of id entries ≡ Some s)
   unfolding entry_named
   summary_at id c h tree =
@@ -290,60 +290,6 @@ module _ (digest : List ℕ → List ℕ) (pool : Cells) (entries : Entries) (st
       ∙ none-both
       (sums (map (table.entry_summary (take (position_of id entries) entries)) t.direct))
       ∙ lists-sum t.lists (position_of id entries) p.1.directories
-
-  -- ---- names without a tree
-
-  pub no_object : (id : List ℕ) → None ≡ slot_of id entries
-      → tree_fault (objects pool entries) id ≡ Some fault.ObjectUnknown
-  unfolding entry_named
-  no_object id h = by (lookup (bytes_eq id) entries) (object_named-objects pool id entries) h
-    where
-      by : (o : Option Entry)
-          → object_named id (objects pool entries) ≡ option_map (λ (x : Entry). content pool x.slot) o
-          → None ≡ option_map (λ (x : Entry). x.slot) o
-          → tree_fault (objects pool entries) id ≡ Some fault.ObjectUnknown
-      by None is k = ap content_fault is
-      by (Some e) is k = cc k
-
-  pub no_tree : (id : List ℕ) (s : ℕ) → Some s ≡ slot_of id entries → None ≡ summary_of id entries
-      → tree_fault (objects pool entries) id ≡ Some fault.WrongKind
-  unfolding entry_named
-  no_tree id s at none = by (lookup (bytes_eq id) entries) refl at none
-    where
-      by : (o : Option Entry) → lookup (bytes_eq id) entries ≡ o
-          → Some s ≡ option_map (λ (x : Entry). x.slot) o
-          → None ≡ option_and_then (λ (x : Entry). x.summary) o
-          → tree_fault (objects pool entries) id ≡ Some fault.WrongKind
-      by None is k l = cc k
-      by (Some e) is k l =
-          let there : SummedAfter (take (position_of id entries) entries) (content pool e.slot) None =
-          subst
-          (λ (o : Option Summary). SummedAfter (take (position_of id entries) entries) (content pool e.slot) o)
-          (sym l) (summed_at id e is) in
-          ap content_fault (object_of id e is) ∙ other_kind (content pool e.slot).kind there
-
-  -- ---- what is read
-
-  pub read_contents : (id : List ℕ) (slot : ℕ) (k : Kind) (bytes : List ℕ)
-      → IsSome (summary_of id entries) → Some slot ≡ slot_of id entries
-      → content_from k bytes ≡ content pool slot
-      → (es : List TreeEntry) × HasTree (objects pool entries) id es × (bytes ≡ tree_contents es)
-  read_contents id slot k bytes some at got =
-      let s = the_summary (summary_of id entries) some in
-      let p = placed id s.0 s.1 in
-      let there = found_some pool id entries slot at in
-      let same : content pool slot ≡ tree_content p.0 = some_is (content pool slot) (tree_content p.0) (sym there ∙ p.1.has.content) in
-      (p.0, p.1.has, ap (λ (c : Content). c.bytes) (got ∙ same))
-
-  pub read_tree : (id : List ℕ) (slot : ℕ) (k : Kind) (bytes : List ℕ)
-      → IsSome (summary_of id entries) → Some slot ≡ slot_of id entries
-      → content_from k bytes ≡ content pool slot
-      → (ds : List TreeEntry) → CanWriteTree ds → bytes ≡ tree_contents ds
-      → HasTree (objects pool entries) id ds
-  read_tree id slot k bytes some at got ds writable is =
-      let r = read_contents id slot k bytes some at got in
-      subst (HasTree (objects pool entries) id)
-      (tree_contents-injective r.0 ds r.1.entries writable (sym r.2 ∙ is)) r.1
 
 pub some_unless : {A : Type 0} (o : Option A) → (IsNone o → ⊥) → IsSome o
 some_unless None h = absurd (h refl)

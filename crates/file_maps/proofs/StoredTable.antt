@@ -52,7 +52,7 @@ module _ (digest : List ℕ → List ℕ) (pool : Cells) (entries : Entries)
       tree-within (objects pool entries) (λ k. position_of k entries) falls id fs t
       (length (objects pool entries)) (omega arith)
 
-  files-listed : (id : List ℕ) (es : List TreeEntry) → HasTree (objects pool entries) id es
+  pub files-listed : (id : List ℕ) (es : List TreeEntry) → HasTree (objects pool entries) id es
       → ListsTree (objects pool entries) id (stored_files (objects pool entries) id)
   files-listed id es has =
       let p = tree-placed digest pool entries stands id es has in

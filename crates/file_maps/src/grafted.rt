@@ -1,33 +1,27 @@
 //! One stored tree, read from a table: its summary and its entries.
 
-ghost use Rattle.std.specs.Prelude.{◌≡◌, Some, IsSome, IfOk, IfErr};
+ghost use Rattle.std.specs.Prelude.{◌≡◌, Some, List, IfOk, IfErr};
+ghost use Rattle.git_model.specs.Tree.{TreeEntry as ListedEntry};
 ghost use Rattle.git_objects.specs.Parts.{entries_of};
-ghost use Rattle.tenant_tables.specs.Objects.{objects};
-ghost use Rattle.tenant_tables.specs.IsBackedBy.{IsBackedBy};
-ghost use Rattle.tenant_tables.specs.View.{summary_of};
+ghost use Rattle.tenant_tables.specs.IsBackedBy.{HasSummary};
 ghost use Rattle.file_maps.specs.StoredTree.{HasTree};
 ghost use Rattle.file_maps.specs.Grafts.{tree_fault, is_small};
 
 use crate::check::FILES_LIMIT;
 use crate::fault::Fault;
-use content_pool::Pool;
 use git_objects::{Memory, Name, Naming, TreeEntry, read_tree};
 use std::alloc::Global;
-use tenant_tables::{Summary, Table};
+use tenant_tables::{Objects, Summary};
 
 /// The summary of the stored tree of this name. `ObjectUnknown` (14) where no object has this name,
 /// `WrongKind` (15) where the object is not a tree. Nothing changes.
-///
-/// The pool is the one that the table stands in.
-pub fn tree_summary<N: Naming>(_pool: &Pool<N>, table: &Table, id: &Name) -> Result<Summary, Fault>
-    requires { IsBackedBy N.digest_of _pool.now table.now.entries }
-    ensures tree { IfOk result (λ s. summary_of id.now table.now.entries ≡ Some s) }
-    ensures refusal { IfErr result
-        (λ e. tree_fault (objects _pool.now table.now.entries) id.now ≡ Some e) }
+pub fn tree_summary<N: Naming>(objects: &Objects<'_, N>, id: &Name) -> Result<Summary, Fault>
+    ensures tree { IfOk result (λ s. HasSummary N.digest_of objects.now id.now (Some s)) }
+    ensures refusal { IfErr result (λ e. tree_fault objects.now id.now ≡ Some e) }
 {
-    match table.summary(id) {
+    match objects.summary(id) {
         Some(summary) => Ok(summary),
-        None => match table.find(id) {
+        None => match objects.get(id) {
             Some(_) => Err(Fault::WrongKind),
             None => Err(Fault::ObjectUnknown),
         },
@@ -42,21 +36,15 @@ pub fn is_small(summary: Summary) -> bool
 }
 
 /// The entries of the stored tree of this name. `Memory` (90) is the only refusal.
-///
-/// The pool is the one that the table stands in.
 pub fn read_entries<'a, N: Naming>(
     alloc: Global,
-    pool: &'a Pool<N>,
-    table: &Table,
+    objects: &Objects<'a, N>,
     id: &Name,
 ) -> Result<Vec<TreeEntry<'a>>, Memory>
-    requires stands { IsBackedBy N.digest_of pool.now table.now.entries }
-    requires tree { IsSome (summary_of id.now table.now.entries) }
-    ensures { IfOk result (λ es.
-        HasTree (objects pool.now table.now.entries) id.now (entries_of es.items)) }
+    requires { (es : List ListedEntry) × HasTree objects.now id.now es }
+    ensures { IfOk result (λ es. HasTree objects.now id.now (entries_of es.items)) }
 {
-    let slot = table.find(id).unwrap();
-    let (_, contents) = pool.get(slot);
+    let (_, contents) = objects.get(id).unwrap();
     let entries = read_tree(alloc, contents)?;
     Ok(entries.unwrap())
 }

@@ -35,7 +35,7 @@ use std::alloc::Global;
 use std::collections::BTreeMap;
 use std::marker::Model;
 use std::mem;
-use tenant_tables::Table;
+use tenant_tables::{Objects, Sight, Table};
 
 /// The files of a branch under their paths.
 #[derive(Drop)]
@@ -185,7 +185,7 @@ impl Files {
             self.old self.new }
     {
         let alloc = self.alloc;
-        if !is_small(tree_summary(pool, table, name)?) {
+        if !is_small(tree_summary(&Objects::of(pool, table, Sight::All), name)?) {
             return Err(Fault::Limit);
         }
         let mut files = Vec::new(alloc);

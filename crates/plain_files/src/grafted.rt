@@ -20,7 +20,7 @@ use file_maps::{Entry, read_entries};
 use git_objects::{FileMode, Memory, Name, Naming, TreeEntry};
 use git_paths::Path;
 use std::alloc::Global;
-use tenant_tables::Table;
+use tenant_tables::{Objects, Sight, Table};
 
 fn has_none(table: &Table, id: &Name) -> bool
     ensures { result ≡ has_none (summary_of id.now table.now.entries) }
@@ -76,7 +76,7 @@ pub(crate) fn gather<N: Naming>(
     if has_none(table, id) {
         return Ok(());
     }
-    let entries = read_entries(alloc, pool, table, id)?;
+    let entries = read_entries(alloc, &Objects::of(pool, table, Sight::All), id)?;
     for entry in &entries {
         gather_entry(alloc, pool, table, top, entry, files)?;
     }

@@ -15,4 +15,5 @@ pub mod SharedDigits
 pub mod StoredGood
 pub mod InSight
 pub mod Positions
+pub mod Backed
 pub mod Copies

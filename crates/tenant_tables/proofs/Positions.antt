@@ -29,7 +29,7 @@ place_named p id (e ∷ es) =
     ap (λ (n : ℕ). cond (not (bytes_eq id e.0)) (1 + n) 0) (place_named p id es)
 
 -- what is in sight is a prefix of the entries
-prefix : (s : Sight) (t : View) → take (length (in_sight s t)) t.entries ≡ in_sight s t
+pub prefix : (s : Sight) (t : View) → take (length (in_sight s t)) t.entries ≡ in_sight s t
 prefix sight.All t = take-length t.entries
 prefix sight.Committed t =
     ap (λ (n : ℕ). take n t.entries) (length-take t.committed t.entries)

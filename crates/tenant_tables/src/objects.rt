@@ -4,20 +4,21 @@
 //! the committed prefix, those of the open stream. Contracts see the list of the objects, oldest
 //! first, and neither the pool nor the table.
 
-ghost use Rattle.std.specs.Prelude.{◌≡◌, length, map, is_some};
+ghost use Rattle.std.specs.Prelude.{◌≡◌, length, map, is_some, IfOk};
 ghost use Rattle.std.specs.Option.{option_map};
+ghost use Rattle.git_model.specs.ObjectName.{object_name};
 ghost use Rattle.git_model.specs.Content.{content_from};
 ghost use Rattle.git_model.specs.Repository.{object_named};
 ghost use Rattle.name_index.specs.Index.{most_shared};
 ghost use Rattle.tenant_tables.specs.Abbreviation.{found_among};
 ghost use Rattle.tenant_tables.specs.Objects.{objects};
-ghost use Rattle.tenant_tables.specs.IsBackedBy.{IsBackedBy};
+ghost use Rattle.tenant_tables.specs.IsBackedBy.{IsBackedBy, AreBacked, HasSummary};
 ghost use Rattle.tenant_tables.specs.View.{in_sight, slot_of};
 
-use crate::{Found, Sight, Table};
+use crate::{Found, Sight, Summary, Table};
 use content_pool::{Pool, Slot};
 use git_model::Kind;
-use git_names::{Name, Naming};
+use git_names::{Memory, Name, Naming};
 use std::marker::Model;
 
 fn slot_in_sight(table: &Table, sight: Sight, id: &Name) -> Option<Slot>
@@ -77,6 +78,34 @@ impl<'a, N: Naming> Objects<'a, N> {
         ensures { result ≡ is_some (object_named id.now self.now) }
     {
         self.get(id).is_some()
+    }
+
+    /// The summary of the tree of this name; `None` if there is no such tree. Takes no memory.
+    pub fn summary(&self, id: &Name) -> Option<Summary>
+        ensures { HasSummary N.digest_of self.now id.now result }
+    {
+        let (place, entry) = self.table.look_up(id)?;
+        if place < self.len() {
+            entry.summary
+        } else {
+            None
+        }
+    }
+
+    /// The object name of the content of this kind with these bytes, which need not be that of an
+    /// object here. `Memory` (90) if the naming finds no room for its work.
+    pub fn name_of(&self, kind: Kind, bytes: &[u8]) -> Result<Name, Memory>
+        ensures { IfOk result (λ id. id ≡ object_name N.digest_of kind bytes.now) }
+    {
+        self.pool.name_of(kind, bytes)
+    }
+
+    /// States for proofs that these are the objects of a table that the pool backs. A call does
+    /// nothing.
+    pub fn are_backed(&self)
+        ensures { AreBacked N.digest_of self.now }
+    {
+        let _sight = self.sight;
     }
 
     /// How many objects there are. Takes no memory.

@@ -115,8 +115,8 @@ impl Table {
         self.look_up(id).map(|found| found.0)
     }
 
-    // The position of a name, and its entry.
-    fn look_up(&self, id: &Name) -> Option<(usize, Entry)>
+    /// The position of a name, and its entry.
+    pub(crate) fn look_up(&self, id: &Name) -> Option<(usize, Entry)>
         ensures place { option_map (λ r. r.0) result
             ≡ position (bytes_eq id.now) (names self.now.entries) }
         ensures entry { option_map (λ r. r.1) result ≡ entry_named id.now self.now.entries }

@@ -8,11 +8,8 @@ use Rattle.git_model.specs.Repository.{Object}
 use Rattle.git_paths.specs.Paths.{IsComponent}
 use Rattle.git_paths.specs.Order.{path_cmp, path_cmp-total, path_cmp-IsAntisymmetric}
 use Rattle.git_paths.proofs.Cases.{some_is}
-use Rattle.content_pool.specs.Pool.{Cells}
 use Rattle.tenant_tables.specs.declared.summary.Summary.{Summary}
-use Rattle.tenant_tables.specs.View.{Entries, summary_of}
-use Rattle.tenant_tables.specs.Objects.{objects}
-use Rattle.tenant_tables.specs.IsBackedBy.{IsBackedBy}
+use Rattle.tenant_tables.specs.IsBackedBy.{AreBacked, HasSummary}
 use Rattle.file_maps.specs.FileMap.{Path, Listed, FileMap, AreFiles, listed, is_apart}
 use Rattle.file_maps.specs.Edits.{moved, with_files, put_tree_at, put_fault}
 use Rattle.file_maps.specs.Grafts.{is_small}
@@ -22,9 +19,8 @@ use Rattle.file_maps.specs.StoredTree.{ListsTree}
 use Rattle.file_maps.proofs.Apart.{both_true}
 use Rattle.file_maps.proofs.Listing.{tree-apart, tree-sound}
 use Rattle.file_maps.proofs.ListedOrder.{tree-in-order, listed-with}
-use Rattle.file_maps.proofs.Standing.{tree-lists, tree-summary}
 use Rattle.file_maps.proofs.StoredPut.{tree-paths}
-use Rattle.file_maps.proofs.StoredTable.{stored-listed}
+use Rattle.file_maps.proofs.Backed.{stored-listed, listed-summary}
 use Rattle.tree_build.specs.Shape.{What, file, unopened, opened, shape_files, what_files}
 use Rattle.tree_build.specs.Branch.{Branch, IsWhat, IsBranch, files_in, known_tree, root_name}
 use Rattle.tree_build.specs.Limits.{may_stand, with_tree, TakesTree}
@@ -77,35 +73,23 @@ few_files top (f ∷ fs) h =
     (both_true (leb s.files 1048576 && leb s.depth 256) (leb s.longest 16383)
     (both_true (is_small s) (fits_below top s) (sym (stand-some top f fs) ∙ h)).0).0).0
 
-module _ (digest : List ℕ → List ℕ) (pool : Cells) (entries : Entries)
-    (stands : IsBackedBy digest pool entries) where
-  abbrev os : List Object
-  os = objects pool entries
+-- ---- a tree of the table
 
+pub tree-here : {digest : List ℕ → List ℕ} {os : List Object} {id : List ℕ} (s : Summary)
+    → HasSummary digest os id (Some s) → IsStored os id s
+tree-here s has = let l = listed-summary s has in record { tree = l.0; sum = l.1 }
+
+pub placeable : (os : List Object) (id : List ℕ) → ListsTree os id (stored_files os id)
+    → ArePlaceable (stored_files os id)
+placeable os id t = record {
+  sound = tree-sound os id (stored_files os id) t;
+  paths = tree-paths os id (stored_files os id) t;
+  apart = tree-apart os id (stored_files os id) t;
+}
+
+module _ (digest : List ℕ → List ℕ) (os : List Object) (backed : AreBacked digest os) where
   abbrev files : List ℕ → Listed
   files id = stored_files os id
-
-  -- ---- a tree of the table
-
-  tree-named : (id : List ℕ) (s : Summary) → summary_of id entries ≡ Some s
-      → ListsTree os id (files id)
-  tree-named id s h =
-      let t = tree-lists digest pool entries stands id s h in
-      subst (ListsTree os id) (sym (stored-listed digest pool entries stands id t.0 t.1)) t.1
-
-  summary-is : (id : List ℕ) (s : Summary) → summary_of id entries ≡ Some s
-      → s ≡ files_summary (files id)
-  summary-is id s h = tree-summary digest pool entries stands id s (files id) h (tree-named id s h)
-
-  pub tree-here : (id : List ℕ) (s : Summary) → summary_of id entries ≡ Some s → IsStored os id s
-  tree-here id s h = record { tree = tree-named id s h; sum = summary-is id s h }
-
-  pub placeable : (id : List ℕ) → ListsTree os id (files id) → ArePlaceable (files id)
-  placeable id t = record {
-    sound = tree-sound os id (files id) t;
-    paths = tree-paths os id (files id) t;
-    apart = tree-apart os id (files id) t;
-  }
 
   -- ---- at the root
 
@@ -124,7 +108,7 @@ module _ (digest : List ℕ → List ℕ) (pool : Cells) (entries : Entries)
     root_fault : (m : FileMap)
         → put_fault (moved [] (files id)) (put_tree_at m [] (files id)) ≡ None
     root_fault m =
-        put_fits [] (files id) (put_tree_at m [] (files id)) (placeable id t).sound fit
+        put_fits [] (files id) (put_tree_at m [] (files id)) (placeable os id t).sound fit
         ∙ not_many (finmap.len (put_tree_at m [] (files id))) (root_few m)
 
     known_files : (w : What) (inside : Listed) → IsWhat os w inside → known_tree w ≡ Some id
@@ -133,7 +117,7 @@ module _ (digest : List ℕ → List ℕ) (pool : Cells) (entries : Entries)
     known_files (unopened other) inside h is = ap (stored_files os) (some_is other id is)
     known_files (opened None) inside h is = cc is
     known_files (opened (Some other)) inside h is =
-        sym (stored-listed digest pool entries stands other inside h)
+        sym (stored-listed digest os backed other inside h)
         ∙ ap (stored_files os) (some_is other id is)
 
     known_map : (b : Branch) → IsBranch os b → root_name b ≡ Some id
@@ -173,7 +157,7 @@ module _ (digest : List ℕ → List ℕ) (pool : Cells) (entries : Entries)
         → AreFiles (listed (with_files finmap.empty (files id)))
     root_good m h =
         subst (λ (x : FileMap). AreFiles (listed x)) (root_map m (files id))
-        (fits_good m [] (files id) h (All-nil IsComponent) (placeable id t) fit (root_few m))
+        (fits_good m [] (files id) h (All-nil IsComponent) (placeable os id t) fit (root_few m))
 
     pub root-branch : (n : ℕ) (old new : Branch) → n ≡ length (files id) → IsBranch os old
         → TakesTree id n old new → IsBranch os new

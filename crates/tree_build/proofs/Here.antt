@@ -5,17 +5,14 @@ use Rattle.git_model.specs.declared.file_mode.FileMode.TheVariants as mode
 use Rattle.git_model.specs.Repository.{Object}
 use Rattle.git_model.specs.Tree.{TreeEntry}
 use Rattle.git_paths.proofs.Cases.{some_is}
-use Rattle.content_pool.specs.Pool.{Cells}
-use Rattle.tenant_tables.specs.View.{Entries}
-use Rattle.tenant_tables.specs.Objects.{objects}
-use Rattle.tenant_tables.specs.IsBackedBy.{IsBackedBy}
+use Rattle.tenant_tables.specs.IsBackedBy.{AreBacked}
 use Rattle.file_maps.specs.declared.entry.Entry.{Entry}
 use Rattle.file_maps.specs.FileMap.{Listed}
 use Rattle.file_maps.specs.Trees.{Groups, file_of, tree_id, entry_or, direct}
 use Rattle.file_maps.specs.StoredFiles.{stored_files}
 use Rattle.file_maps.specs.StoredTree.{ListsTree}
 use Rattle.file_maps.proofs.ListedOrder.{cut-root}
-use Rattle.file_maps.proofs.StandingGood.{trees-good}
+use Rattle.file_maps.proofs.Backed.{trees-good}
 use Rattle.file_maps.proofs.TreeOf.{entry_of}
 use Rattle.tree_build.specs.declared.dir.Node.{Node}
 use Rattle.tree_build.specs.declared.dir.Node.TheVariants as node
@@ -36,37 +33,37 @@ named-here digest fs id e some none name is =
     ∙ ap (λ (n : List ℕ). Some (record { mode = mode.Directory; name = n })) name
     ∙ sym (stands-here digest fs some none)
 
-module _ (digest : List ℕ → List ℕ) (pool : Cells) (entries : Entries) (stands : IsBackedBy digest pool entries) where
+pub here-opened : (digest : List ℕ → List ℕ) (k : Known) (n : Node) (d : Directory) (id : List ℕ) (e : Entry)
+    → n ≡ node.Opened d → held_files k (held n) ≢ [] → id ≡ tree_id digest (shape_files k d.entries)
+    → e ≡ record { mode = mode.Directory; name = id }
+    → Some e ≡ stands_at digest (held_files k (held n)) []
+here-opened digest k n d id e at some name is =
+    let full = subst (λ (x : Node). held_files k (held x) ≢ []) at some in
+    subst (λ (x : Node). Some e ≡ stands_at digest (held_files k (held x)) []) (sym at)
+    (named-here digest (shape_files k d.entries) id e full (no-root k d.entries) name is)
+
+module _ (digest : List ℕ → List ℕ) (os : List Object) (backed : AreBacked digest os) where
   abbrev k : Known
-  k = stored_files (objects pool entries)
+  k = stored_files os
 
-  pub known-name : (id : List ℕ) (fs : Listed) → ListsTree (objects pool entries) id fs → id ≡ tree_id digest fs
-  known-name id fs t = sym (id-again digest (objects pool entries) (trees-good digest pool entries stands) id fs t)
+  pub known-name : (id : List ℕ) (fs : Listed) → ListsTree os id fs → id ≡ tree_id digest fs
+  known-name id fs t = sym (id-again digest os (trees-good digest os backed) id fs t)
 
-  pub here-unopened : (n : Node) (id : List ℕ) (e : Entry) → n ≡ node.Unopened id → IsHeld (objects pool entries) (held n)
+  pub here-unopened : (n : Node) (id : List ℕ) (e : Entry) → n ≡ node.Unopened id → IsHeld os (held n)
       → held_files k (held n) ≢ [] → e ≡ record { mode = mode.Directory; name = id }
       → Some e ≡ stands_at digest (held_files k (held n)) []
   here-unopened n id e at sound some is =
-      let t = (subst (λ (x : Node). IsHeld (objects pool entries) (held x)) at sound).0 in
+      let t = (subst (λ (x : Node). IsHeld os (held x)) at sound).0 in
       let full = subst (λ (x : Node). held_files k (held x) ≢ []) at some in
       subst (λ (x : Node). Some e ≡ stands_at digest (held_files k (held x)) []) (sym at)
-      (named-here digest (k id) id e full (no_file (objects pool entries) id (k id) t) (known-name id (k id) t) is)
-
-  pub here-opened : (n : Node) (d : Directory) (id : List ℕ) (e : Entry) → n ≡ node.Opened d
-      → held_files k (held n) ≢ [] → id ≡ tree_id digest (shape_files k d.entries)
-      → e ≡ record { mode = mode.Directory; name = id }
-      → Some e ≡ stands_at digest (held_files k (held n)) []
-  here-opened n d id e at some name is =
-      let full = subst (λ (x : Node). held_files k (held x) ≢ []) at some in
-      subst (λ (x : Node). Some e ≡ stands_at digest (held_files k (held x)) []) (sym at)
-      (named-here digest (shape_files k d.entries) id e full (no-root k d.entries) name is)
+      (named-here digest (k id) id e full (no_file os id (k id) t) (known-name id (k id) t) is)
 
   pub tree-known : (d : Directory) (id : List ℕ) → d.tree ≡ Some id
-      → IsHeld (objects pool entries) (record { what = opened d.tree; inside = d.entries })
+      → IsHeld os (record { what = opened d.tree; inside = d.entries })
       → id ≡ tree_id digest (shape_files k d.entries)
   tree-known d id is sound =
       known-name id (shape_files k d.entries)
-      (subst (λ (o : Option (List ℕ)). IsWhat (objects pool entries) (opened o) (shape_files k d.entries)) is sound.0)
+      (subst (λ (o : Option (List ℕ)). IsWhat os (opened o) (shape_files k d.entries)) is sound.0)
 
 -- ---- entries in a row
 

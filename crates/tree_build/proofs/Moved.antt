@@ -4,13 +4,10 @@ use Rattle.std.specs.Prelude.{Option, None, Some, Ok}
 use Rattle.std.specs.Option.{option_map}
 use Rattle.std.specs.FinMap as finmap
 use Rattle.std.specs.FinMap.{len-entries}
-use Rattle.content_pool.specs.Pool.{Cells}
 use Rattle.git_paths.specs.Paths.{strip_prefix}
 use Rattle.git_model.specs.Repository.{Object}
 use Rattle.tenant_tables.specs.declared.summary.Summary.{Summary}
-use Rattle.tenant_tables.specs.View.{Entries}
-use Rattle.tenant_tables.specs.Objects.{objects}
-use Rattle.tenant_tables.specs.IsBackedBy.{IsBackedBy}
+use Rattle.tenant_tables.specs.IsBackedBy.{AreBacked}
 use Rattle.file_maps.specs.FileMap.{Path, Listed, FileMap, AreFiles, listed}
 use Rattle.file_maps.specs.Edits.{cut, files_at, moved}
 use Rattle.file_maps.specs.Storable.{files_summary}
@@ -87,12 +84,9 @@ uncopied (Some k) e = cc e
 one_of : (x y : Held) → Some x ≡ Some y → x ≡ y
 one_of x y e = cc e
 
-module _ (digest : List ℕ → List ℕ) (pool : Cells) (entries : Entries) (stands : IsBackedBy digest pool entries)
-    {b : Branch} (branch : IsBranch (objects pool entries) b) (path : Path) (shut : closed_from b.root path ≡ 0)
-    {m : FileMap} (same : files_in (objects pool entries) b ≡ m) {from : Path} (split : path ≡ from) where
-  abbrev os : List Object
-  os = objects pool entries
-
+module _ (digest : List ℕ → List ℕ) (os : List Object) (backed : AreBacked digest os)
+    {b : Branch} (branch : IsBranch os b) (path : Path) (shut : closed_from b.root path ≡ 0)
+    {m : FileMap} (same : files_in os b ≡ m) {from : Path} (split : path ≡ from) where
   pub nothing-there : (o : Option Node) → o ≡ None
       → option_map held o ≡ option_map copied_held (standing path (Some b.root))
       → files_at m from ≡ []
@@ -111,8 +105,8 @@ module _ (digest : List ℕ → List ℕ) (pool : Cells) (entries : Entries) (st
           let there = stood branch path shut same split k at in
           let copy = one_of (held n) (copied_held k) e in
           let files : held_files (stored_files os) (held n) ≡ held_files (stored_files os) k =
-          ap (held_files (stored_files os)) copy ∙ held-files-copied digest pool entries stands k there.held in record {
-            held = subst (λ (h : Held). IsHeld os h) (sym copy) (held-copied digest pool entries stands k there.held);
+          ap (held_files (stored_files os)) copy ∙ held-files-copied digest os backed k there.held in record {
+            held = subst (λ (h : Held). IsHeld os h) (sym copy) (held-copied digest os backed k there.held);
             files = files ∙ there.files;
             small = subst (λ (l : Listed). IsSmall (files_summary l)) (sym files) there.small;
           }

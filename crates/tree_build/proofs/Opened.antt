@@ -11,10 +11,7 @@ use Rattle.git_model.specs.declared.file_mode.FileMode.{FileMode}
 use Rattle.git_model.specs.declared.file_mode.FileMode.TheVariants as mode
 use Rattle.git_model.specs.Repository.{Object}
 use Rattle.git_model.specs.Tree.{TreeEntry, IsEntryName, CanWriteEntry, order_key, slash_of}
-use Rattle.content_pool.specs.Pool.{Cells}
-use Rattle.tenant_tables.specs.View.{Entries}
-use Rattle.tenant_tables.specs.Objects.{objects}
-use Rattle.tenant_tables.specs.IsBackedBy.{IsBackedBy}
+use Rattle.tenant_tables.specs.IsBackedBy.{AreBacked}
 use Rattle.file_maps.specs.declared.entry.Entry.{Entry}
 use Rattle.file_maps.specs.FileMap.{Listed}
 use Rattle.file_maps.specs.Edits.{moved}
@@ -23,10 +20,8 @@ use Rattle.file_maps.specs.StoredAgain.{IsFilled, AreTreesGood}
 use Rattle.file_maps.specs.StoredTree.{HasTree, file_from, Lists, nothing, first_file, first_directory, ListsTree}
 use Rattle.file_maps.proofs.Listing.{Distinct, distinct, has-only}
 use Rattle.file_maps.proofs.ListedOrder.{Rises, rises}
-use Rattle.file_maps.proofs.StandingGood.{trees-good}
 use Rattle.file_maps.proofs.StoredAgain.{lists-some}
-use Rattle.file_maps.proofs.StoredTable.{stored-listed}
-use Rattle.file_maps.proofs.Standing.{tree-placed, tree-lists}
+use Rattle.file_maps.proofs.Backed.{trees-good, stored-listed, tree-listed}
 use Rattle.tree_build.specs.declared.dir.Node.{Node}
 use Rattle.tree_build.specs.Shape.{What, file, Shape, none, Held, Directory, what_files, shape_files}
 use Rattle.tree_build.specs.Branch.{slash_after, key_of, IsNodeBefore, IsBeforeAll, IsWhat, IsShape}
@@ -97,16 +92,12 @@ rows_before e c (d ∷ es) ne up cs = (
 
 -- ---- what is listed
 
-module _ (digest : List ℕ → List ℕ) (pool : Cells) (entries : Entries)
-    (stands : IsBackedBy digest pool entries) where
-  abbrev os : List Object
-  os = objects pool entries
-
+module _ (digest : List ℕ → List ℕ) (os : List Object) (backed : AreBacked digest os) where
   abbrev known : List ℕ → Listed
   known = stored_files os
 
   abbrev good : AreTreesGood digest os
-  good = trees-good digest pool entries stands
+  good = trees-good digest os backed
 
   tree_files : {es : List TreeEntry} {fs : Listed} → Lists os es fs → shape_files known (tree_shape es) ≡ fs
   tree_files nothing = refl
@@ -117,21 +108,15 @@ module _ (digest : List ℕ → List ℕ) (pool : Cells) (entries : Entries)
   tree_files (first_directory e es inside under files is has sub l) =
       ap (λ (m : FileMode). moved (e.name ∷ []) (what_files known (what_by m e.id (record { mode = e.mode; name = e.id })) []) ++ shape_files known (tree_shape es)) is
       ∙ ap (λ (u : Listed). moved (e.name ∷ []) u ++ shape_files known (tree_shape es))
-      (stored-listed digest pool entries stands e.id under (record { direct = inside; tree = has; lists = sub }))
+      (stored-listed digest os backed e.id under (record { direct = inside; tree = has; lists = sub }))
       ∙ ap (λ (r : Listed). moved (e.name ∷ []) under ++ r) (tree_files l)
-
-  pub files_listed : (id : List ℕ) (es : List TreeEntry) → HasTree os id es → ListsTree os id (known id)
-  files_listed id es has =
-      let p = tree-placed digest pool entries stands id es has in
-      let t = tree-lists digest pool entries stands id p.0 p.1.summary in
-      subst (ListsTree os id) (sym (stored-listed digest pool entries stands id t.0 t.1)) t.1
 
   entry_sound : (e : TreeEntry) → CanWriteEntry e → IsFilled os e → (m : FileMode) → e.mode ≡ m
       → IsWhat os (what_by m e.id (record { mode = e.mode; name = e.id })) []
       × (what_files known (what_by m e.id (record { mode = e.mode; name = e.id })) [] ≢ [])
   entry_sound e w f mode.Directory is =
       let inside = f is in
-      let lists = files_listed e.id inside.inside inside.tree in (
+      let lists = tree-listed digest os backed e.id inside.inside inside.tree in (
         lists,
         some_listed lists inside.inside inside.tree inside.some,
       )
@@ -162,7 +147,7 @@ module _ (digest : List ℕ → List ℕ) (pool : Cells) (entries : Entries)
       → (s : Shape) → s ≡ tree_shape es
       → (d : Directory) → d.tree ≡ Some id → d.entries ≡ s → IsOpening os id d
   opens id es has s is d tree in_it =
-      let t = files_listed id es has in
+      let t = tree-listed digest os backed id es has in
       let writable = recursion_from_All CanWriteEntry es has.entries.entries in
       let shape = tree_sound es (distinct es has.entries.names_are_distinct) (rises es has.entries.in_order) writable
       (recursion_from_All (IsFilled os) es (good.filled id es has)) in

@@ -6,16 +6,13 @@ use Rattle.std.specs.Cmp.Lexicographic.{slice_cmp}
 use Rattle.std.specs.Str.{bytes_eq}
 use Rattle.git_model.specs.Repository.{Object}
 use Rattle.git_paths.proofs.Cases.{by_cases}
-use Rattle.content_pool.specs.Pool.{Cells}
-use Rattle.tenant_tables.specs.View.{Entries}
-use Rattle.tenant_tables.specs.Objects.{objects}
-use Rattle.tenant_tables.specs.IsBackedBy.{IsBackedBy}
+use Rattle.tenant_tables.specs.IsBackedBy.{AreBacked}
 use Rattle.file_maps.specs.FileMap.{Path, Listed}
 use Rattle.file_maps.specs.Edits.{cut, moved}
 use Rattle.file_maps.specs.StoredFiles.{stored_files}
 use Rattle.file_maps.specs.StoredTree.{ListsTree}
 use Rattle.file_maps.proofs.ListedOrder.{cut-root}
-use Rattle.file_maps.proofs.StoredTable.{stored-listed}
+use Rattle.file_maps.proofs.Backed.{stored-listed}
 use Rattle.tree_build.specs.Shape.{What, file, unopened, opened, Shape, none, row, Held, Known, what_files, shape_files, held_files}
 use Rattle.tree_build.specs.Branch.{slash_after, key_of, IsBeforeAll, IsWhat, IsShape, IsHeld, closed_by, closed_along}
 use Rattle.tree_build.specs.Editing.{child}
@@ -129,11 +126,7 @@ before-copied c w (row d v inside rest) h = (
   before-copied c w rest h.1,
 )
 
-module _ (digest : List ℕ → List ℕ) (pool : Cells) (entries : Entries)
-    (stands : IsBackedBy digest pool entries) where
-  abbrev os : List Object
-  os = objects pool entries
-
+module _ (digest : List ℕ → List ℕ) (os : List Object) (backed : AreBacked digest os) where
   abbrev files : Shape → Listed
   files s = shape_files (stored_files os) s
 
@@ -144,7 +137,7 @@ module _ (digest : List ℕ → List ℕ) (pool : Cells) (entries : Entries)
   what-copied (file e) inside s same = refl
   what-copied (unopened id) inside s same = refl
   what-copied (opened None) inside s same = same
-  what-copied (opened (Some id)) inside s same = stored-listed digest pool entries stands id
+  what-copied (opened (Some id)) inside s same = stored-listed digest os backed id
       (files inside) s
 
   sound-copied : (w : What) (inside : Shape) → IsWhat os w (files inside)
@@ -153,7 +146,7 @@ module _ (digest : List ℕ → List ℕ) (pool : Cells) (entries : Entries)
   sound-copied (unopened id) inside s = s
   sound-copied (opened None) inside s = tt
   sound-copied (opened (Some id)) inside s =
-      subst (ListsTree os id) (sym (stored-listed digest pool entries stands id (files inside) s)) s
+      subst (ListsTree os id) (sym (stored-listed digest os backed id (files inside) s)) s
 
   inside-copied : (w : What) (inside : Shape) → IsShape os inside
       → IsShape os (copied_inside w inside)

@@ -1,6 +1,5 @@
 -- What stands below a path of a stored tree is what stands in the part of its first entry.
 use Rattle.std.proofs.Common.{◌≡◌, ◌≢◌, ℕ, Bool, true, false, cond, List, [], ◌∷◌, ◌++◌, Option, Some, None, refl, sym, ap, ◌∙◌, subst}
-use Rattle.std.specs.Prelude.{IsSome}
 use Rattle.std.specs.Option.{option_map}
 use Rattle.std.specs.List.{AllByRecursion}
 use Rattle.std.specs.Str.{bytes_eq}
@@ -10,11 +9,7 @@ use Rattle.git_model.specs.declared.file_mode.FileMode.TheVariants as mode
 use Rattle.git_model.specs.Repository.{Object}
 use Rattle.git_model.specs.Tree.{TreeEntry}
 use Rattle.git_paths.proofs.Cases.{by_cases, some_is}
-use Rattle.content_pool.specs.Pool.{Cells}
-use Rattle.tenant_tables.specs.View.{Entries, summary_of}
-use Rattle.tenant_tables.specs.Objects.{objects}
-use Rattle.tenant_tables.specs.IsBackedBy.{IsBackedBy}
-use Rattle.tenant_tables.specs.declared.summary.Summary.{Summary}
+use Rattle.tenant_tables.specs.IsBackedBy.{AreBacked}
 use Rattle.file_maps.specs.declared.entry.Entry.{Entry}
 use Rattle.file_maps.specs.FileMap.{Path, Listed}
 use Rattle.file_maps.specs.Edits.{cut, moved}
@@ -25,9 +20,8 @@ use Rattle.file_maps.specs.StoredAgain.{IsFilled, AreTreesGood}
 use Rattle.file_maps.specs.StoredFiles.{stored_files}
 use Rattle.file_maps.proofs.Listing.{Distinct, distinct, has-only}
 use Rattle.file_maps.proofs.ListedOrder.{cut-root}
-use Rattle.file_maps.proofs.StandingGood.{trees-good}
 use Rattle.file_maps.proofs.StoredAgain.{lists-some, inside-some, filled-in}
-use Rattle.file_maps.proofs.StoredTable.{stored-listed, table-summary}
+use Rattle.file_maps.proofs.Backed.{trees-good, stored-listed}
 use Rattle.tree_build.specs.Parts.{spread, part_of, AreParts}
 use Rattle.tree_build.specs.Rows.{IsPart, a_file, a_directory, HaveParts}
 use Rattle.tree_build.specs.Standing.{IsRow, stands_at, row_named, IsFoundAt}
@@ -142,19 +136,16 @@ pub of_directory : {os : List Object} {e : TreeEntry} {g : List ℕ × Listed} �
 of_directory (a_file e ne) k = absurd (ne k)
 of_directory (a_directory e fs is t some) k = (t, some)
 
-module _ (digest : List ℕ → List ℕ) (pool : Cells) (entries : Entries) (stands : IsBackedBy digest pool entries)
-    (id : List ℕ) (t : ListsTree (objects pool entries) id (stored_files (objects pool entries) id))
-    (rows : List TreeEntry) (has : HasTree (objects pool entries) id rows) where
-  abbrev os : List Object
-  os = objects pool entries
-
+module _ (digest : List ℕ → List ℕ) (os : List Object) (backed : AreBacked digest os)
+    (id : List ℕ) (t : ListsTree os id (stored_files os id))
+    (rows : List TreeEntry) (has : HasTree os id rows) where
   abbrev fs : Listed
   fs = stored_files os id
 
-  good : AreTreesGood digest (objects pool entries)
-  good = trees-good digest pool entries stands
+  good : AreTreesGood digest os
+  good = trees-good digest os backed
 
-  own : PartsOf (objects pool entries) rows (stored_files (objects pool entries) id)
+  own : PartsOf os rows (stored_files os id)
   own =
       let same = has-only os id t.direct rows t.tree has in
       parts-of digest os good (subst (λ (es : List TreeEntry). Lists os es fs) same t.lists)
@@ -181,7 +172,7 @@ module _ (digest : List ℕ → List ℕ) (pool : Cells) (entries : Entries) (st
       × ListsTree os e.id (stored_files os e.id) × (stored_files os e.id ≢ [])
   below-directory c rest e is dir =
       let part = of_directory (part-some os rows own.parts own.have c e is) dir in
-      let same : stored_files os e.id ≡ part_of c own.parts = stored-listed digest pool entries stands e.id _ part.0 in (
+      let same : stored_files os e.id ≡ part_of c own.parts = stored-listed digest os backed e.id _ part.0 in (
         below c rest ∙ ap (λ (l : Listed). stands_at digest l rest) (sym same),
         subst (ListsTree os e.id) (sym same) part.0,
         λ no. part.1 (sym same ∙ no),
@@ -223,7 +214,7 @@ module _ (digest : List ℕ → List ℕ) (pool : Cells) (entries : Entries) (st
       → cut (c ∷ rest) fs ≡ cut rest (stored_files os e.id)
   found-directory c rest e is dir =
       let part = of_directory (part-some os rows own.parts own.have c e is) dir in
-      cut-below c rest ∙ ap (cut rest) (sym (stored-listed digest pool entries stands e.id _ part.0))
+      cut-below c rest ∙ ap (cut rest) (sym (stored-listed digest os backed e.id _ part.0))
 
   unnamed_part : {e : TreeEntry} {g : List ℕ × Listed} → IsPart os e g
       → IsPart os (record { mode = e.mode; name = []; id = e.id }) ([], g.1)
@@ -237,11 +228,6 @@ module _ (digest : List ℕ → List ℕ) (pool : Cells) (entries : Entries) (st
       (sym (cut-below c [] ∙ cut-root (part_of c own.parts)))
       (unnamed_part (part-some os rows own.parts own.have c e is))
 
-pub is-tree : (digest : List ℕ → List ℕ) (pool : Cells) (entries : Entries) → IsBackedBy digest pool entries
-    → (id : List ℕ) (fs : Listed) → ListsTree (objects pool entries) id fs → IsSome (summary_of id entries)
-is-tree digest pool entries stands id fs t =
-    subst (λ (o : Option Summary). IsSome o) (sym (table-summary digest pool entries stands id fs t)) refl
-
 -- ---- what is found
 
 described : (o : Option TreeEntry) (r : Entry) → Some r ≡ option_map what o → (e : TreeEntry) × (o ≡ Some e) × (r ≡ what e)
@@ -252,23 +238,23 @@ not_found : (o : Option TreeEntry) → ◌≡◌ {A = Option Entry} None (option
 not_found None h = refl
 not_found (Some e) h = cc h
 
-module _ {digest : List ℕ → List ℕ} {pool : Cells} {entries : Entries} (stands : IsBackedBy digest pool entries)
-    {id : List ℕ} (t : ListsTree (objects pool entries) id (stored_files (objects pool entries) id))
-    {c : List ℕ} {o : Option Entry} (named : IsRow (objects pool entries) id c o) where
+module _ {digest : List ℕ → List ℕ} {os : List Object} (backed : AreBacked digest os)
+    {id : List ℕ} (t : ListsTree os id (stored_files os id))
+    {c : List ℕ} {o : Option Entry} (named : IsRow os id c o) where
   abbrev rows : List TreeEntry
   rows = named.rows
 
   -- what is at a path below the tree, with these files
   abbrev IsAt : Option Entry → Path → Type 0
   IsAt x rest =
-      (x ≡ stands_at digest (stored_files (objects pool entries) id) (c ∷ rest))
-      × IsFoundAt (objects pool entries) x (cut (c ∷ rest) (stored_files (objects pool entries) id))
+      (x ≡ stands_at digest (stored_files os id) (c ∷ rest))
+      × IsFoundAt os x (cut (c ∷ rest) (stored_files os id))
 
   pub none-named : (rest : Path) → o ≡ None → IsAt None rest
   none-named rest is =
       let none = not_found (row_named rows c) (sym is ∙ named.row) in (
-        sym (below-none digest pool entries stands id t rows named.tree c rest none),
-        found-none digest pool entries stands id t rows named.tree c rest none,
+        sym (below-none digest os backed id t rows named.tree c rest none),
+        found-none digest os backed id t rows named.tree c rest none,
       )
 
   row-of : (r : Entry) → o ≡ Some r → (e : TreeEntry) × (row_named rows c ≡ Some e) × (r ≡ what e)
@@ -279,8 +265,8 @@ module _ {digest : List ℕ → List ℕ} {pool : Cells} {entries : Entries} (st
       let e = row-of r is in
       subst (λ (p : Path). IsAt (Some r) p) (sym end)
       (subst (λ (x : Entry). IsAt (Some x) []) (sym e.2) (
-        sym (below-here digest pool entries stands id t rows named.tree c e.0 e.1),
-        found-here digest pool entries stands id t rows named.tree c e.0 e.1,
+        sym (below-here digest os backed id t rows named.tree c e.0 e.1),
+        found-here digest os backed id t rows named.tree c e.0 e.1,
       ))
 
   pub no-directory : (r : Entry) → o ≡ Some r → (rest : Path) (d : List ℕ) (left : Path) → rest ≡ d ∷ left
@@ -289,25 +275,25 @@ module _ {digest : List ℕ → List ℕ} {pool : Cells} {entries : Entries} (st
       let e = row-of r is in
       let no : e.0.mode ≢ mode.Directory = λ dir. ne (ap (λ (x : Entry). x.mode) e.2 ∙ dir) in
       subst (λ (p : Path). IsAt None p) (sym more) (
-        sym (below-file digest pool entries stands id t rows named.tree c d left e.0 e.1 no),
-        found-file digest pool entries stands id t rows named.tree c d left e.0 e.1 no,
+        sym (below-file digest os backed id t rows named.tree c d left e.0 e.1 no),
+        found-file digest os backed id t rows named.tree c d left e.0 e.1 no,
       )
 
   -- what is below a directory is at the rest of the path below its tree
   pub record IsBelow (id_below : List ℕ) (rest : Path) : Type 0 where
-    pub same : stands_at digest (stored_files (objects pool entries) id) (c ∷ rest)
-        ≡ stands_at digest (stored_files (objects pool entries) id_below) rest
-    pub tree : ListsTree (objects pool entries) id_below (stored_files (objects pool entries) id_below)
-    pub files : cut (c ∷ rest) (stored_files (objects pool entries) id)
-        ≡ cut rest (stored_files (objects pool entries) id_below)
+    pub same : stands_at digest (stored_files os id) (c ∷ rest)
+        ≡ stands_at digest (stored_files os id_below) rest
+    pub tree : ListsTree os id_below (stored_files os id_below)
+    pub files : cut (c ∷ rest) (stored_files os id)
+        ≡ cut rest (stored_files os id_below)
 
   pub in-directory : (r : Entry) → o ≡ Some r → (rest : Path) → r.mode ≡ mode.Directory → IsBelow r.name rest
   in-directory r is rest dir =
       let e = row-of r is in
       let its : e.0.mode ≡ mode.Directory = sym (ap (λ (x : Entry). x.mode) e.2) ∙ dir in
-      let below = below-directory digest pool entries stands id t rows named.tree c rest e.0 e.1 its in
+      let below = below-directory digest os backed id t rows named.tree c rest e.0 e.1 its in
       subst (λ (x : Entry). IsBelow x.name rest) (sym e.2) (record {
         same = below.0;
         tree = below.1;
-        files = found-directory digest pool entries stands id t rows named.tree c rest e.0 e.1 its;
+        files = found-directory digest os backed id t rows named.tree c rest e.0 e.1 its;
       })

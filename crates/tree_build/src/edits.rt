@@ -29,59 +29,47 @@ use content_pool::Pool;
 use file_maps::{Entry, FILES_LIMIT, Fault};
 use git_objects::{Memory, Naming, has_twenty_bytes};
 use git_paths::{Components, Path};
-use tenant_tables::Table;
+use tenant_tables::{Objects, Sight, Table};
 
 impl Files {
     /// Opens the directories on the way to a path.
     pub(crate) fn open_to<N: Naming>(
         &mut self,
-        pool: &Pool<N>,
-        table: &Table,
+        objects: &Objects<'_, N>,
         path: &Components<'_>,
     ) -> Result<(), Memory>
-        requires stands { IsBackedBy N.digest_of pool.now table.now.entries }
-        requires branch { IsBranch (objects pool.now table.now.entries) self.old }
-        ensures branch { OnOk result (IsBranch (objects pool.now table.now.entries) self.new) }
-        ensures files { OnOk result (files_in (objects pool.now table.now.entries) self.new
-            ≡ files_in (objects pool.now table.now.entries) self.old) }
+        requires branch { IsBranch objects.now self.old }
+        ensures branch { OnOk result (IsBranch objects.now self.new) }
+        ensures files { OnOk result (files_in objects.now self.new
+            ≡ files_in objects.now self.old) }
         ensures shut { OnOk result (closed_from self.new.root path.now ≡ 0) }
         ensures open { OnOk result ((q : FilePath)
             → closed_from self.new.root q ≤ closed_from self.old.root q) }
         ensures reads { CountsAtMost self.old self.new (closed_from self.old.root path.now) }
     {
-        open_below(
-            self.alloc,
-            pool,
-            table,
-            &mut self.root,
-            path,
-            &mut self.reads,
-        )
+        open_below(self.alloc, objects, &mut self.root, path, &mut self.reads)
     }
 
     /// Removes the files at or below a path and, if `clear`, a file at a prefix of the path. If
     /// there are none, each directory keeps the name of its stored tree.
     pub(crate) fn take_out<N: Naming>(
         &mut self,
-        pool: &Pool<N>,
-        table: &Table,
+        objects: &Objects<'_, N>,
         path: &Components<'_>,
         clear: bool,
     )
-        requires stands { IsBackedBy N.digest_of pool.now table.now.entries }
-        requires branch { IsBranch (objects pool.now table.now.entries) self.old }
+        requires branch { IsBranch objects.now self.old }
         requires shut { closed_from self.old.root path.now ≡ 0 }
         requires some { path.now ≢ [] }
-        ensures branch { IsBranch (objects pool.now table.now.entries) self.new }
-        ensures files { files_in (objects pool.now table.now.entries) self.new
-            ≡ finmap.retain_keys (files_in (objects pool.now table.now.entries) self.old)
-            (is_kept clear path.now) }
+        ensures branch { IsBranch objects.now self.new }
+        ensures files { files_in objects.now self.new
+            ≡ finmap.retain_keys (files_in objects.now self.old) (is_kept clear path.now) }
         ensures open { (q : FilePath) → closed_from self.new.root q ≤ closed_from self.old.root q }
         ensures reads { self.new.reads ≡ self.old.reads }
     {
         match &mut self.root {
             Node::Opened(dir) => {
-                let gone = taken(pool, table, &dir.entries, path, clear);
+                let gone = taken(objects, &dir.entries, path, clear);
                 if gone == 0 {
                     return;
                 }
@@ -116,14 +104,15 @@ impl Files {
         ensures open { OnOk result ((q : FilePath)
             → closed_from self.new.root q ≤ closed_from self.old.root q) }
     {
+        let objects = Objects::of(pool, table, Sight::All);
         self.walk_reads_few(path);
         if path.is_root() {
             self.clear();
             return Ok(());
         }
         let path = path.components();
-        self.open_to(pool, table, &path)?;
-        self.take_out(pool, table, &path, false);
+        self.open_to(&objects, &path)?;
+        self.take_out(&objects, &path, false);
         Ok(())
     }
 
@@ -131,18 +120,14 @@ impl Files {
     /// of it. `total` is the number of files before that, plus those of the node.
     pub(crate) fn put_node<N: Naming>(
         &mut self,
-        pool: &Pool<N>,
-        table: &Table,
+        objects: &Objects<'_, N>,
         path: &Components<'_>,
         node: Node,
         total: usize,
     ) -> Result<(), Fault>
-        requires stands { IsBackedBy N.digest_of pool.now table.now.entries }
         requires some { path.now ≢ [] }
-        requires may { MayPut (objects pool.now table.now.entries) path.now (held node) total
-            self.old }
-        ensures puts { PutsNode (objects pool.now table.now.entries) result path.now (held node)
-            self.old self.new }
+        requires may { MayPut objects.now path.now (held node) total self.old }
+        ensures puts { PutsNode objects.now result path.now (held node) self.old self.new }
         ensures there { OnOk result ((rest : FilePath)
             → closed_from self.new.root (path.now ++ rest)
             ≡ closed_from (held node) rest) }
@@ -150,7 +135,7 @@ impl Files {
         has_components(path);
         match &mut self.root {
             Node::Opened(dir) => {
-                let files = total - taken(pool, table, &dir.entries, path, true);
+                let files = total - taken(objects, &dir.entries, path, true);
                 if files > FILES_LIMIT {
                     return Err(Fault::Limit);
                 }
@@ -166,24 +151,21 @@ impl Files {
     /// directories on the way, counts the files that go, and puts the file.
     pub(crate) fn put_file<N: Naming>(
         &mut self,
-        pool: &Pool<N>,
-        table: &Table,
+        objects: &Objects<'_, N>,
         path: &Components<'_>,
         entry: Entry,
     ) -> Result<(), Fault>
         requires file { entry.mode ≢ mode.Directory }
         requires name { IsObjectName entry.name }
-        requires stands { IsBackedBy N.digest_of pool.now table.now.entries }
-        requires branch { IsBranch (objects pool.now table.now.entries) self.old }
+        requires branch { IsBranch objects.now self.old }
         requires some { path.now ≢ [] }
         requires within { is_within_limits path.now ≡ true }
         requires room { self.old.files < files_limit }
-        ensures edits { let os = objects pool.now table.now.entries in
+        ensures edits { let os = objects.now in
             let m = files_in os self.old in
             let after = put_tree_at m path.now (([], entry) ∷ []) in
             Edits result m (files_in os self.new) (too_many (finmap.len after)) after }
-        ensures branch { result ≢ Err fault.Memory
-            → IsBranch (objects pool.now table.now.entries) self.new }
+        ensures branch { result ≢ Err fault.Memory → IsBranch objects.now self.new }
         ensures reads { CountsAtMost self.old self.new (closed_from self.old.root path.now) }
         ensures open { OnOk result ((q : FilePath)
             → closed_from self.new.root q ≤ closed_from self.old.root q) }
@@ -193,8 +175,7 @@ impl Files {
         let total = self.files + 1;
         let gone = put_inside(
             self.alloc,
-            pool,
-            table,
+            objects,
             &mut self.root,
             path,
             &entry,
@@ -237,6 +218,7 @@ impl Files {
             → closed_from self.new.root q ≤ closed_from self.old.root q) }
         ensures shut { OnOk result (closed_from self.new.root path.now ≡ 0) }
     {
+        let objects = Objects::of(pool, table, Sight::All);
         self.walk_reads_few(path);
         has_twenty_bytes(&entry.name);
         if path.is_root() {
@@ -249,11 +231,11 @@ impl Files {
         has_components(&path);
         // Where there is room for one file more, no file has to be counted before this one is put.
         if self.file_count() < FILES_LIMIT {
-            return self.put_file(pool, table, &path, entry);
+            return self.put_file(&objects, &path, entry);
         }
-        self.open_to(pool, table, &path)?;
+        self.open_to(&objects, &path)?;
         let total = self.file_count() + 1;
-        self.put_node(pool, table, &path, Node::File(entry), total)
+        self.put_node(&objects, &path, Node::File(entry), total)
     }
 }
 

@@ -20,31 +20,28 @@ use file_maps::Entry;
 use git_objects::{FileMode, Memory, Name, Naming};
 use git_paths::{Components, Path};
 use std::alloc::Global;
-use tenant_tables::Table;
+use tenant_tables::{Objects, Sight, Table};
 
 /// What is at a path below a node.
 #[cycle(looking)]
 pub(crate) fn entry_at<N: Naming>(
     alloc: Global,
-    pool: &Pool<N>,
-    table: &Table,
+    objects: &Objects<'_, N>,
     node: &Node,
     path: &Components<'_>,
 ) -> Result<Option<Entry>, Memory>
-    requires stands { IsBackedBy N.digest_of pool.now table.now.entries }
-    requires sound { IsHeld (objects pool.now table.now.entries) (held node.now) }
-    requires some { path.now ≡ []
-        → held_files (stored_files (objects pool.now table.now.entries)) (held node.now) ≢ [] }
+    requires sound { IsHeld objects.now (held node.now) }
+    requires some { path.now ≡ [] → held_files (stored_files objects.now) (held node.now) ≢ [] }
     ensures { IfOk result (λ o. o ≡ stands_at N.digest_of
-        (held_files (stored_files (objects pool.now table.now.entries)) (held node.now)) path.now) }
+        (held_files (stored_files objects.now) (held node.now)) path.now) }
 {
     let Some((name, rest)) = path.split_first() else {
-        return Ok(Some(entry_here(alloc, pool, table, node)?));
+        return Ok(Some(entry_here(alloc, objects, node)?));
     };
     match node {
         Node::File(_) => Ok(None),
-        Node::Unopened(tree) => stored_entry(alloc, pool, table, tree, name, &rest, &mut 0),
-        Node::Opened(dir) => entry_below(alloc, pool, table, &dir.entries, name, &rest),
+        Node::Unopened(tree) => stored_entry(alloc, objects, tree, name, &rest, &mut 0),
+        Node::Opened(dir) => entry_below(alloc, objects, &dir.entries, name, &rest),
     }
 }
 
@@ -52,21 +49,17 @@ pub(crate) fn entry_at<N: Naming>(
 #[tactic(auto, using(crate::proofs::Searched::ordered))]
 fn entry_below<N: Naming>(
     alloc: Global,
-    pool: &Pool<N>,
-    table: &Table,
+    objects: &Objects<'_, N>,
     entries: &Entries,
     name: &[u8],
     rest: &Components<'_>,
 ) -> Result<Option<Entry>, Memory>
-    requires stands { IsBackedBy N.digest_of pool.now table.now.entries }
-    requires sound { IsShape (objects pool.now table.now.entries) (shape_of entries.now.items) }
-    ensures { IfOk result (λ o. o ≡ stands_at N.digest_of
-        (shape_files (stored_files (objects pool.now table.now.entries))
-        (shape_of entries.now.items))
-        (name.now ∷ rest.now)) }
+    requires sound { IsShape objects.now (shape_of entries.now.items) }
+    ensures { IfOk result (λ o. o ≡ stands_at N.digest_of (shape_files (stored_files objects.now)
+        (shape_of entries.now.items)) (name.now ∷ rest.now)) }
 {
     match place_of(entries, name) {
-        Some(place) => entry_at(alloc, pool, table, &entries.at(place).1, rest),
+        Some(place) => entry_at(alloc, objects, &entries.at(place).1, rest),
         None => Ok(None),
     }
 }
@@ -74,20 +67,19 @@ fn entry_below<N: Naming>(
 // The name of the tree of the root.
 fn root_tree<N: Naming>(
     alloc: Global,
-    pool: &Pool<N>,
-    table: &Table,
+    objects: &Objects<'_, N>,
     root: &Node,
 ) -> Result<Name, Memory>
-    requires stands { IsBackedBy N.digest_of pool.now table.now.entries }
     requires directory { IsDirectory (held root.now).what }
-    requires sound { IsHeld (objects pool.now table.now.entries) (held root.now) }
+    requires sound { IsHeld objects.now (held root.now) }
     ensures { IfOk result (λ id. id ≡ tree_id N.digest_of
-        (held_files (stored_files (objects pool.now table.now.entries)) (held root.now))) }
+        (held_files (stored_files objects.now) (held root.now))) }
 {
+    objects.are_backed();
     match root {
         Node::File(file) => Ok(file.name),
         Node::Unopened(tree) => Ok(*tree),
-        Node::Opened(dir) => tree_of(alloc, pool, table, dir),
+        Node::Opened(dir) => tree_of(alloc, objects, dir),
     }
 }
 
@@ -110,11 +102,12 @@ impl Files {
         ensures { IfOk result (λ o. o ≡ entry_at N.digest_of
             (files_in (objects pool.now table.now.entries) self.now) path.now) }
     {
+        let objects = Objects::of(pool, table, Sight::All);
         if path.is_root() {
-            let name = root_tree(self.alloc, pool, table, &self.root)?;
+            let name = root_tree(self.alloc, &objects, &self.root)?;
             let mode = FileMode::Directory;
             return Ok(Some(Entry { mode, name }));
         }
-        entry_at(self.alloc, pool, table, &self.root, &path.components())
+        entry_at(self.alloc, &objects, &self.root, &path.components())
     }
 }

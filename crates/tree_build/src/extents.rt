@@ -1,10 +1,8 @@
 //! How many files are at or below a node, how deep they are, and how long their paths are.
 //!
-//! The table knows this for a stored tree, so only edited directories are walked.
+//! This is known for a stored tree, so only edited directories are walked.
 
 ghost use Rattle.std.specs.Prelude.{◌≡◌, [], ◌∷◌};
-ghost use Rattle.tenant_tables.specs.Objects.{objects};
-ghost use Rattle.tenant_tables.specs.IsBackedBy.{IsBackedBy};
 ghost use Rattle.file_maps.specs.Edits.{moved};
 ghost use Rattle.file_maps.specs.Storable.{files_summary};
 ghost use Rattle.file_maps.specs.StoredFiles.{stored_files};
@@ -15,9 +13,8 @@ ghost use Rattle.tree_build.specs.Sums.{IsSmall};
 
 use crate::dir::{Dir, Entries, Node};
 use crate::sums::{below, both, no_files, one_file};
-use content_pool::Pool;
 use git_objects::Naming;
-use tenant_tables::{Summary, Table};
+use tenant_tables::{Objects, Summary};
 
 // The summary of a node that is a file, by the path from the node.
 fn file_here() -> Summary
@@ -32,51 +29,46 @@ fn file_here() -> Summary
 
 /// The summary of the files at or below a node.
 #[cycle(measuring)]
-pub(crate) fn extent<N: Naming>(pool: &Pool<N>, table: &Table, node: &Node) -> Summary
-    requires stands { IsBackedBy N.digest_of pool.now table.now.entries }
-    requires sound { IsHeld (objects pool.now table.now.entries) (held node.now) }
+pub(crate) fn extent<N: Naming>(objects: &Objects<'_, N>, node: &Node) -> Summary
+    requires sound { IsHeld objects.now (held node.now) }
     requires small { IsSmall (files_summary (held_files
-        (stored_files (objects pool.now table.now.entries)) (held node.now))) }
-    ensures { result ≡ files_summary (held_files
-        (stored_files (objects pool.now table.now.entries)) (held node.now)) }
+        (stored_files objects.now) (held node.now))) }
+    ensures { result ≡ files_summary (held_files (stored_files objects.now) (held node.now)) }
 {
     match node {
         Node::File(_) => file_here(),
-        Node::Unopened(tree) => table.summary(tree).unwrap_or(no_files()),
-        Node::Opened(dir) => extent_of_dir(pool, table, dir),
+        Node::Unopened(tree) => objects.summary(tree).unwrap_or(no_files()),
+        Node::Opened(dir) => extent_of_dir(objects, dir),
     }
 }
 
 // A directory that is a stored tree is not walked.
 #[cycle(measuring)]
-fn extent_of_dir<N: Naming>(pool: &Pool<N>, table: &Table, dir: &Dir) -> Summary
-    requires stands { IsBackedBy N.digest_of pool.now table.now.entries }
-    requires sound { IsHeld (objects pool.now table.now.entries)
+fn extent_of_dir<N: Naming>(objects: &Objects<'_, N>, dir: &Dir) -> Summary
+    requires sound { IsHeld objects.now
         (record { what = opened dir.now.tree; inside = dir.now.entries }) }
     requires small { IsSmall (files_summary (shape_files
-        (stored_files (objects pool.now table.now.entries)) dir.now.entries)) }
-    ensures { result ≡ files_summary (shape_files
-        (stored_files (objects pool.now table.now.entries)) dir.now.entries) }
+        (stored_files objects.now) dir.now.entries)) }
+    ensures { result ≡ files_summary (shape_files (stored_files objects.now) dir.now.entries) }
 {
     match dir.tree {
-        Some(tree) => table.summary(&tree).unwrap_or(no_files()),
-        None => extent_of_all(pool, table, &dir.entries),
+        Some(tree) => objects.summary(&tree).unwrap_or(no_files()),
+        None => extent_of_all(objects, &dir.entries),
     }
 }
 
 #[cycle(measuring)]
-fn extent_of_all<N: Naming>(pool: &Pool<N>, table: &Table, entries: &Entries) -> Summary
-    requires stands { IsBackedBy N.digest_of pool.now table.now.entries }
-    requires sound { IsShape (objects pool.now table.now.entries) (shape_of entries.now.items) }
+fn extent_of_all<N: Naming>(objects: &Objects<'_, N>, entries: &Entries) -> Summary
+    requires sound { IsShape objects.now (shape_of entries.now.items) }
     requires small { IsSmall (files_summary (shape_files
-        (stored_files (objects pool.now table.now.entries)) (shape_of entries.now.items))) }
+        (stored_files objects.now) (shape_of entries.now.items))) }
     ensures { result ≡ files_summary (shape_files
-        (stored_files (objects pool.now table.now.entries)) (shape_of entries.now.items)) }
+        (stored_files objects.now) (shape_of entries.now.items)) }
 {
     let mut sum = no_files();
     for place in 0..entries.len() {
         let entry = entries.at(place);
-        sum = both(sum, extent_under(pool, table, entry.0.as_bytes(), &entry.1));
+        sum = both(sum, extent_under(objects, entry.0.as_bytes(), &entry.1));
     }
     sum
 }
@@ -84,16 +76,15 @@ fn extent_of_all<N: Naming>(pool: &Pool<N>, table: &Table, entries: &Entries) ->
 // The summary of the files at or below an entry, by their paths from the directory that has the
 // entry.
 #[cycle(measuring)]
-fn extent_under<N: Naming>(pool: &Pool<N>, table: &Table, name: &[u8], node: &Node) -> Summary
-    requires stands { IsBackedBy N.digest_of pool.now table.now.entries }
-    requires sound { IsHeld (objects pool.now table.now.entries) (held node.now) }
+fn extent_under<N: Naming>(objects: &Objects<'_, N>, name: &[u8], node: &Node) -> Summary
+    requires sound { IsHeld objects.now (held node.now) }
     requires small { IsSmall (files_summary (moved (name.now ∷ []) (held_files
-        (stored_files (objects pool.now table.now.entries)) (held node.now)))) }
+        (stored_files objects.now) (held node.now)))) }
     ensures { result ≡ files_summary (moved (name.now ∷ []) (held_files
-        (stored_files (objects pool.now table.now.entries)) (held node.now))) }
+        (stored_files objects.now) (held node.now))) }
 {
     match node {
         Node::File(_) => one_file(name),
-        _ => below(name, extent(pool, table, node)),
+        _ => below(name, extent(objects, node)),
     }
 }

@@ -23,7 +23,7 @@ use content_pool::Pool;
 use file_maps::{Fault, is_small, tree_summary};
 use git_objects::{Name, Naming};
 use git_paths::Path;
-use tenant_tables::{Summary, Table};
+use tenant_tables::{Objects, Sight, Summary, Table};
 
 // Whether files with this summary may be put below a path.
 fn may_stand(path: &Path, files: Summary) -> bool
@@ -91,8 +91,9 @@ impl Files {
         ensures kept { OnOk result (path.now ≡ [] → root_name self.old ≡ Some name.now
             → self.new ≡ self.old) }
     {
+        let objects = Objects::of(pool, table, Sight::All);
         self.walk_reads_few(path);
-        let summary = tree_summary(pool, table, name)?;
+        let summary = tree_summary(&objects, name)?;
         if !may_stand(path, summary) {
             return Err(Fault::Limit);
         }
@@ -101,45 +102,40 @@ impl Files {
             self.take_tree(name, files);
             return Ok(());
         }
-        self.put_tree(pool, table, path, name, files)
+        self.put_tree(&objects, path, name, files)
     }
 
     // Puts a stored tree at a path below the root. `files` is the number of its files.
     fn put_tree<N: Naming>(
         &mut self,
-        pool: &Pool<N>,
-        table: &Table,
+        objects: &Objects<'_, N>,
         path: &Path,
         name: &Name,
         files: usize,
     ) -> Result<(), Fault>
-        requires stands { IsBackedBy N.digest_of pool.now table.now.entries }
-        requires branch { IsBranch (objects pool.now table.now.entries) self.old }
+        requires branch { IsBranch objects.now self.old }
         requires some { path.now ≢ [] }
-        requires tree { ListsTree (objects pool.now table.now.entries) name.now
-            (stored_files (objects pool.now table.now.entries) name.now) }
-        requires files { files
-            ≡ length (stored_files (objects pool.now table.now.entries) name.now) }
+        requires tree { ListsTree objects.now name.now (stored_files objects.now name.now) }
+        requires files { files ≡ length (stored_files objects.now name.now) }
         requires fits { may_stand path.now
-            (files_summary (stored_files (objects pool.now table.now.entries) name.now)) ≡ true }
-        ensures edits { let os = objects pool.now table.now.entries in
+            (files_summary (stored_files objects.now name.now)) ≡ true }
+        ensures edits { let os = objects.now in
             let m = files_in os self.old in
             let files = stored_files os name.now in let after = put_tree_at m path.now files in
             Edits result m (files_in os self.new) (put_fault (moved path.now files) after) after }
-        ensures branch { result ≢ Err fault.Memory
-            → IsBranch (objects pool.now table.now.entries) self.new }
+        ensures branch { result ≢ Err fault.Memory → IsBranch objects.now self.new }
         ensures reads { CountsAtMost self.old self.new (closed_from self.old.root path.now) }
         ensures open { OnOk result ((q : FilePath) → strip_prefix path.now q ≡ None
             → closed_from self.new.root q ≤ closed_from self.old.root q) }
     {
         let path = path.components();
         has_components(&path);
-        self.open_to(pool, table, &path)?;
+        self.open_to(objects, &path)?;
         if files == 0 {
-            self.take_out(pool, table, &path, true);
+            self.take_out(objects, &path, true);
             return Ok(());
         }
         let total = self.file_count() + files;
-        self.put_node(pool, table, &path, Node::Unopened(*name), total)
+        self.put_node(objects, &path, Node::Unopened(*name), total)
     }
 }

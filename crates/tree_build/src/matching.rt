@@ -6,8 +6,6 @@ ghost use Rattle.git_model.specs.ObjectName.{IsObjectName};
 ghost use Rattle.git_model.specs.Repository.{object_named};
 ghost use Rattle.git_objects.specs.Parts.{entry_of};
 ghost use Rattle.std.specs.List.{AllByRecursion};
-ghost use Rattle.tenant_tables.specs.Objects.{objects};
-ghost use Rattle.tenant_tables.specs.IsBackedBy.{IsBackedBy};
 ghost use Rattle.file_maps.specs.Trees.{tree_content};
 ghost use Rattle.tree_build.specs.Nodes.{shape_of};
 ghost use Rattle.tree_build.specs.Stores.{AreNamed, entries_of_shape};
@@ -16,9 +14,8 @@ use crate::component::Component;
 use crate::dir::{Dir, Entries, Node};
 use crate::names::node_like;
 use crate::storing::row_of;
-use content_pool::Pool;
 use git_objects::{FileMode, Kind, Name, Naming, TreeEntry, has_twenty_bytes, mode_digits};
-use tenant_tables::{Objects, Sight, Table};
+use tenant_tables::Objects;
 
 // What comes after a text's front, if the text begins with it.
 fn after<'a>(text: &'a [u8], front: &[u8]) -> Option<&'a [u8]>
@@ -81,38 +78,35 @@ fn lists(contents: &[u8], entries: &Entries) -> bool
     rest.is_empty()
 }
 
-// Whether a table has the tree of these entries under a name.
-fn is_tree_of<N: Naming>(pool: &Pool<N>, table: &Table, id: &Name, entries: &Entries) -> bool
-    requires stands { IsBackedBy N.digest_of pool.now table.now.entries }
-    requires named { AreNamed (shape_of entries.now.items) }
-    ensures there { result ≡ true → object_named id.now (objects pool.now table.now.entries)
+// Whether there is the tree of these entries under a name.
+fn is_tree_of<N: Naming>(objects: &Objects<'_, N>, id: &Name, entries: &Entries) -> bool
+    requires { AreNamed (shape_of entries.now.items) }
+    ensures there { result ≡ true → object_named id.now objects.now
         ≡ Some (tree_content (entries_of_shape (shape_of entries.now.items))) }
     ensures ids { result ≡ true
         → AllByRecursion (λ e. IsObjectName e.id) (entries_of_shape (shape_of entries.now.items)) }
 {
-    match Objects::of(pool, table, Sight::All).get(id) {
+    match objects.get(id) {
         Some((Kind::Tree, contents)) => lists(contents, entries),
         _ => false,
     }
 }
 
-/// The name of the tree of an earlier directory, if a table has these entries under it.
+/// The name of the tree of an earlier directory, if it has these entries.
 pub(crate) fn tree_again<N: Naming>(
-    pool: &Pool<N>,
-    table: &Table,
+    objects: &Objects<'_, N>,
     entries: &Entries,
     earlier: Option<&Dir>,
 ) -> Option<Name>
-    requires stands { IsBackedBy N.digest_of pool.now table.now.entries }
-    requires named { AreNamed (shape_of entries.now.items) }
-    ensures there { IfSome result (λ id. object_named id (objects pool.now table.now.entries)
+    requires { AreNamed (shape_of entries.now.items) }
+    ensures there { IfSome result (λ id. object_named id objects.now
         ≡ Some (tree_content (entries_of_shape (shape_of entries.now.items)))) }
     ensures ids { IfSome result
         (λ id. AllByRecursion (λ e. IsObjectName e.id)
         (entries_of_shape (shape_of entries.now.items))) }
 {
     let id = earlier?.tree?;
-    if is_tree_of(pool, table, &id, entries) {
+    if is_tree_of(objects, &id, entries) {
         Some(id)
     } else {
         None

@@ -36,7 +36,7 @@ use content_pool::Pool;
 use file_maps::Fault;
 use git_objects::Naming;
 use git_paths::{Components, Path};
-use tenant_tables::{Summary, Table};
+use tenant_tables::{Objects, Sight, Summary, Table};
 
 // Refuses files that cannot be put at a path, whatever else the branch has.
 fn check_move(to: &Path, files: Summary) -> Result<(), Fault>
@@ -80,38 +80,35 @@ impl Files {
     // Opens the directories on the way to `from`.
     fn copy_from<N: Naming>(
         &mut self,
-        pool: &Pool<N>,
-        table: &Table,
+        objects: &Objects<'_, N>,
         from: &Path,
         to: &Path,
     ) -> Result<(Node, usize), Fault>
-        requires stands { IsBackedBy N.digest_of pool.now table.now.entries }
-        requires branch { IsBranch (objects pool.now table.now.entries) self.old }
-        ensures moved { let os = objects pool.now table.now.entries in
+        requires branch { IsBranch objects.now self.old }
+        ensures moved { let os = objects.now in
             IfOk result (λ r. IsMoved os (files_at (files_in os self.old) from.now)
             (held r.0) r.1) }
-        ensures clean { let os = objects pool.now table.now.entries in
+        ensures clean { let os = objects.now in
             IfOk result (λ r. path_fault (moved to.now (files_at (files_in os self.old) from.now))
             ≡ None) }
-        ensures refusal { let os = objects pool.now table.now.entries in
+        ensures refusal { let os = objects.now in
             IfErr result (λ e. e ≢ fault.Memory
             → path_fault (moved to.now (files_at (files_in os self.old) from.now)) ≡ Some e) }
-        ensures branch { result ≢ Err fault.Memory
-            → IsBranch (objects pool.now table.now.entries) self.new }
-        ensures files { result ≢ Err fault.Memory
-            → files_in (objects pool.now table.now.entries) self.new
-            ≡ files_in (objects pool.now table.now.entries) self.old }
+        ensures branch { result ≢ Err fault.Memory → IsBranch objects.now self.new }
+        ensures files { result ≢ Err fault.Memory → files_in objects.now self.new
+            ≡ files_in objects.now self.old }
         ensures open { OnOk result ((q : FilePath)
             → closed_from self.new.root q ≤ closed_from self.old.root q) }
         ensures shut { OnOk result (closed_from self.new.root from.now ≡ 0) }
         ensures reads { CountsAtMost self.old self.new (closed_from self.old.root from.now) }
     {
         let from = from.components();
-        self.open_to(pool, table, &from)?;
+        objects.are_backed();
+        self.open_to(objects, &from)?;
         let Some(node) = copy_at(self.alloc, &self.root, &from)? else {
             return Err(Fault::SourceMissing);
         };
-        let files = extent(pool, table, &node);
+        let files = extent(objects, &node);
         check_move(to, files)?;
         Ok((node, files.files as usize))
     }
@@ -120,67 +117,56 @@ impl Files {
     // of it; at the root, all. `total` is the number of files before that, plus those of the node.
     fn put_here<N: Naming>(
         &mut self,
-        pool: &Pool<N>,
-        table: &Table,
+        objects: &Objects<'_, N>,
         to: &Components<'_>,
         node: Node,
         total: usize,
     ) -> Result<(), Fault>
-        requires stands { IsBackedBy N.digest_of pool.now table.now.entries }
         requires directory { to.now ≡ [] → IsDirectory (held node).what }
-        requires few { length (held_files (stored_files (objects pool.now table.now.entries))
-            (held node)) ≤ files_limit }
-        requires may { MayPut (objects pool.now table.now.entries) to.now (held node) total
-            self.old }
-        ensures { PutsNode (objects pool.now table.now.entries) result to.now (held node)
-            self.old self.new }
+        requires few { length (held_files (stored_files objects.now) (held node)) ≤ files_limit }
+        requires may { MayPut objects.now to.now (held node) total self.old }
+        ensures { PutsNode objects.now result to.now (held node) self.old self.new }
     {
         if to.len() == 0 {
-            let files = total - count(pool, table, &self.root);
+            let files = total - count(objects, &self.root);
             self.root = node;
             self.files = files;
             return Ok(());
         }
-        self.put_node(pool, table, to, node, total)
+        self.put_node(objects, to, node, total)
     }
 
     // Puts a copy at a path. `files` is the number of its files.
     fn put_moved<N: Naming>(
         &mut self,
-        pool: &Pool<N>,
-        table: &Table,
+        objects: &Objects<'_, N>,
         to: &Path,
         node: Node,
         files: usize,
     ) -> Result<(), Fault>
-        requires stands { IsBackedBy N.digest_of pool.now table.now.entries }
-        requires branch { IsBranch (objects pool.now table.now.entries) self.old }
-        requires held { IsHeld (objects pool.now table.now.entries) (held node) }
+        requires branch { IsBranch objects.now self.old }
+        requires held { IsHeld objects.now (held node) }
         requires directory { to.now ≡ [] → IsDirectory (held node).what }
-        requires full { held_files (stored_files (objects pool.now table.now.entries)) (held node)
-            ≢ [] }
-        requires added { files
-            ≡ length (held_files (stored_files (objects pool.now table.now.entries))
-            (held node)) }
+        requires full { held_files (stored_files objects.now) (held node) ≢ [] }
+        requires added { files ≡ length (held_files (stored_files objects.now) (held node)) }
         requires few { files ≤ files_limit }
-        requires good { let os = objects pool.now table.now.entries in
+        requires good { let os = objects.now in
             let after = put_tree_at (files_in os self.old) to.now
             (held_files (stored_files os) (held node)) in
             finmap.len after ≤ files_limit → AreFiles (listed after) }
-        ensures edits { let os = objects pool.now table.now.entries in
+        ensures edits { let os = objects.now in
             let m = files_in os self.old in
             let after = put_tree_at m to.now (held_files (stored_files os) (held node)) in
             Edits result m (files_in os self.new) (too_many (finmap.len after)) after }
-        ensures branch { result ≢ Err fault.Memory
-            → IsBranch (objects pool.now table.now.entries) self.new }
+        ensures branch { result ≢ Err fault.Memory → IsBranch objects.now self.new }
         ensures reads { CountsAtMost self.old self.new (closed_from self.old.root to.now) }
         ensures open { OnOk result ((q : FilePath) → strip_prefix to.now q ≡ None
             → closed_from self.new.root q ≤ closed_from self.old.root q) }
     {
         let to = to.components();
-        self.open_to(pool, table, &to)?;
+        self.open_to(objects, &to)?;
         let total = self.file_count() + files;
-        self.put_here(pool, table, &to, node, total)
+        self.put_here(objects, &to, node, total)
     }
 
     // Takes out what is at a path, and does not change the number of files.
@@ -232,29 +218,28 @@ impl Files {
         ensures open { OnOk result ((q : FilePath) → strip_prefix to.now q ≡ None
             → closed_from self.new.root q ≤ closed_from self.old.root q) }
     {
+        let objects = Objects::of(pool, table, Sight::All);
         self.walk_reads_few(from);
         self.walk_reads_few(to);
         has_components(&to.components());
-        let (node, files) = self.copy_from(pool, table, from, to)?;
-        self.put_moved(pool, table, to, node, files)
+        let (node, files) = self.copy_from(&objects, from, to)?;
+        self.put_moved(&objects, to, node, files)
     }
 
     // Refuses what is at `from` if it cannot be put at `to`. If `to` is no longer than `from`, no
     // path gets too long, and the files are not walked.
     fn check_source<N: Naming>(
         &self,
-        pool: &Pool<N>,
-        table: &Table,
+        objects: &Objects<'_, N>,
         from: &Components<'_>,
         to: &Path,
     ) -> Result<(), Fault>
-        requires stands { IsBackedBy N.digest_of pool.now table.now.entries }
-        requires branch { IsBranch (objects pool.now table.now.entries) self.now }
+        requires branch { IsBranch objects.now self.now }
         requires shut { closed_from self.now.root from.now ≡ 0 }
-        ensures ok { let os = objects pool.now table.now.entries in
+        ensures ok { let os = objects.now in
             OnOk result (path_fault (moved to.now (files_at (files_in os self.now) from.now))
             ≡ None) }
-        ensures err { let os = objects pool.now table.now.entries in
+        ensures err { let os = objects.now in
             IfErr result (λ e. path_fault (moved to.now (files_at (files_in os self.now) from.now))
             ≡ Some e) }
     {
@@ -264,73 +249,66 @@ impl Files {
         if has_entries(node) && is_no_longer(to, from) {
             return Ok(());
         }
-        check_move(to, extent(pool, table, node))
+        check_move(to, extent(objects, node))
     }
 
     // Opens the directories on the way to `from`. Refuses what is there if it cannot be put at
     // `to`.
     fn open_source<N: Naming>(
         &mut self,
-        pool: &Pool<N>,
-        table: &Table,
+        objects: &Objects<'_, N>,
         from: &Path,
         to: &Path,
     ) -> Result<(), Fault>
-        requires stands { IsBackedBy N.digest_of pool.now table.now.entries }
-        requires branch { IsBranch (objects pool.now table.now.entries) self.old }
-        ensures clean { let os = objects pool.now table.now.entries in
+        requires branch { IsBranch objects.now self.old }
+        ensures clean { let os = objects.now in
             OnOk result (path_fault (moved to.now (files_at (files_in os self.old) from.now))
             ≡ None) }
-        ensures refusal { let os = objects pool.now table.now.entries in
+        ensures refusal { let os = objects.now in
             IfErr result (λ e. e ≢ fault.Memory
             → path_fault (moved to.now (files_at (files_in os self.old) from.now)) ≡ Some e) }
-        ensures branch { result ≢ Err fault.Memory
-            → IsBranch (objects pool.now table.now.entries) self.new }
-        ensures files { result ≢ Err fault.Memory
-            → files_in (objects pool.now table.now.entries) self.new
-            ≡ files_in (objects pool.now table.now.entries) self.old }
+        ensures branch { result ≢ Err fault.Memory → IsBranch objects.now self.new }
+        ensures files { result ≢ Err fault.Memory → files_in objects.now self.new
+            ≡ files_in objects.now self.old }
         ensures open { OnOk result ((q : FilePath)
             → closed_from self.new.root q ≤ closed_from self.old.root q) }
         ensures shut { OnOk result (closed_from self.new.root from.now ≡ 0) }
         ensures reads { CountsAtMost self.old self.new (closed_from self.old.root from.now) }
     {
         let from = from.components();
-        self.open_to(pool, table, &from)?;
-        self.check_source(pool, table, &from, to)
+        self.open_to(objects, &from)?;
+        self.check_source(objects, &from, to)
     }
 
     // Moves what is at `from` to `to`, after `open_source` has not refused it.
     fn move_source<N: Naming>(
         &mut self,
-        pool: &Pool<N>,
-        table: &Table,
+        objects: &Objects<'_, N>,
         from: &Path,
         to: &Path,
     ) -> Result<(), Fault>
-        requires stands { IsBackedBy N.digest_of pool.now table.now.entries }
-        requires branch { IsBranch (objects pool.now table.now.entries) self.old }
+        requires branch { IsBranch objects.now self.old }
         requires shut { closed_from self.old.root from.now ≡ 0 }
-        requires clean { let os = objects pool.now table.now.entries in
+        requires clean { let os = objects.now in
             path_fault (moved to.now (files_at (files_in os self.old) from.now)) ≡ None }
-        ensures edits { let os = objects pool.now table.now.entries in
+        ensures edits { let os = objects.now in
             let m = files_in os self.old in
             let after = renamed m from.now to.now in
             Edits result m (files_in os self.new)
             (move_fault (moved to.now (files_at m from.now)) after) after }
-        ensures branch { result ≢ Err fault.Memory
-            → IsBranch (objects pool.now table.now.entries) self.new }
+        ensures branch { result ≢ Err fault.Memory → IsBranch objects.now self.new }
         ensures reads { CountsAtMost self.old self.new (closed_from self.old.root to.now) }
         ensures open { OnOk result ((q : FilePath) → strip_prefix to.now q ≡ None
             → closed_from self.new.root q ≤ closed_from self.old.root q) }
     {
         let to = to.components();
         has_components(&to);
-        self.open_to(pool, table, &to)?;
+        self.open_to(objects, &to)?;
         let total = self.file_count();
         let Some(node) = self.take_source(&from.components()) else {
             return Ok(());
         };
-        self.put_here(pool, table, &to, node, total)
+        self.put_here(objects, &to, node, total)
     }
 
     /// Moves the files at or below `from` to `to`, and removes the files that were at `to`, below
@@ -362,9 +340,10 @@ impl Files {
         ensures open { OnOk result ((q : FilePath) → strip_prefix to.now q ≡ None
             → closed_from self.new.root q ≤ closed_from self.old.root q) }
     {
+        let objects = Objects::of(pool, table, Sight::All);
         self.walk_reads_few(from);
         self.walk_reads_few(to);
-        self.open_source(pool, table, from, to)?;
-        self.move_source(pool, table, from, to)
+        self.open_source(&objects, from, to)?;
+        self.move_source(&objects, from, to)
     }
 }

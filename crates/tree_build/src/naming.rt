@@ -3,8 +3,6 @@
 ghost use Rattle.std.specs.Prelude.{◌≡◌, ◌≢◌, [], Some, IfOk, OnOk};
 ghost use Rattle.git_model.specs.declared.file_mode.FileMode.TheVariants as mode;
 ghost use Rattle.git_objects.specs.Parts.{entry_of, entries_of};
-ghost use Rattle.tenant_tables.specs.Objects.{objects};
-ghost use Rattle.tenant_tables.specs.IsBackedBy.{IsBackedBy};
 ghost use Rattle.file_maps.specs.StoredFiles.{stored_files};
 ghost use Rattle.file_maps.specs.Trees.{tree_entries, tree_id, tree_name};
 ghost use Rattle.tree_build.specs.Shape.{opened, shape_files, held_files};
@@ -14,48 +12,43 @@ ghost use Rattle.tree_build.specs.Standing.{stands_at};
 
 use crate::component::Component;
 use crate::dir::{Dir, Entries, Node};
-use content_pool::Pool;
 use file_maps::{Entry, contents_of};
 use git_objects::{FileMode, Kind, Memory, Name, Naming, TreeEntry};
 use std::alloc::Global;
-use tenant_tables::Table;
+use tenant_tables::Objects;
 
 /// The name of the tree of an opened directory.
 #[cycle(naming)]
 pub(crate) fn tree_of<N: Naming>(
     alloc: Global,
-    pool: &Pool<N>,
-    table: &Table,
+    objects: &Objects<'_, N>,
     dir: &Dir,
 ) -> Result<Name, Memory>
-    requires stands { IsBackedBy N.digest_of pool.now table.now.entries }
-    requires sound { IsHeld (objects pool.now table.now.entries)
+    requires sound { IsHeld objects.now
         (record { what = opened dir.now.tree; inside = dir.now.entries }) }
     ensures { IfOk result (λ id. id ≡ tree_id N.digest_of
-        (shape_files (stored_files (objects pool.now table.now.entries)) dir.now.entries)) }
+        (shape_files (stored_files objects.now) dir.now.entries)) }
 {
+    objects.are_backed();
     match dir.tree {
         Some(name) => Ok(name),
-        None => tree_of_entries(alloc, pool, table, &dir.entries),
+        None => tree_of_entries(alloc, objects, &dir.entries),
     }
 }
 
 #[cycle(naming)]
 fn tree_of_entries<N: Naming>(
     alloc: Global,
-    pool: &Pool<N>,
-    table: &Table,
+    objects: &Objects<'_, N>,
     entries: &Entries,
 ) -> Result<Name, Memory>
-    requires stands { IsBackedBy N.digest_of pool.now table.now.entries }
-    requires sound { IsShape (objects pool.now table.now.entries) (shape_of entries.now.items) }
-    ensures { IfOk result (λ id. id ≡ tree_id N.digest_of
-        (shape_files (stored_files (objects pool.now table.now.entries))
+    requires sound { IsShape objects.now (shape_of entries.now.items) }
+    ensures { IfOk result (λ id. id ≡ tree_id N.digest_of (shape_files (stored_files objects.now)
         (shape_of entries.now.items))) }
 {
     let mut rows = Vec::new(alloc);
-    match push_rows(alloc, pool, table, entries, &mut rows) {
-        Ok(()) => name_of_rows(alloc, pool, &rows),
+    match push_rows(alloc, objects, entries, &mut rows) {
+        Ok(()) => name_of_rows(alloc, objects, &rows),
         Err(_) => Err(Memory),
     }
 }
@@ -64,21 +57,18 @@ fn tree_of_entries<N: Naming>(
 #[cycle(naming)]
 fn push_rows<'a, N: Naming>(
     alloc: Global,
-    pool: &Pool<N>,
-    table: &Table,
+    objects: &Objects<'_, N>,
     entries: &'a Entries,
     rows: &mut Vec<TreeEntry<'a>>,
 ) -> Result<(), Memory>
-    requires stands { IsBackedBy N.digest_of pool.now table.now.entries }
-    requires sound { IsShape (objects pool.now table.now.entries) (shape_of entries.now.items) }
+    requires sound { IsShape objects.now (shape_of entries.now.items) }
     requires none { rows.old.items ≡ [] }
     ensures { OnOk result (entries_of rows.new.items ≡ tree_entries N.digest_of
-        (shape_files (stored_files (objects pool.now table.now.entries))
-        (shape_of entries.now.items))) }
+        (shape_files (stored_files objects.now) (shape_of entries.now.items))) }
 {
     for place in 0..entries.len() {
         let entry = entries.at(place);
-        let held = entry_here(alloc, pool, table, &entry.1)?;
+        let held = entry_here(alloc, objects, &entry.1)?;
         if rows.push(row_of(entry, held)).is_err() {
             return Err(Memory);
         }
@@ -89,13 +79,13 @@ fn push_rows<'a, N: Naming>(
 // The name of the tree with these entries.
 fn name_of_rows<N: Naming>(
     alloc: Global,
-    pool: &Pool<N>,
+    objects: &Objects<'_, N>,
     rows: &[TreeEntry<'_>],
 ) -> Result<Name, Memory>
     ensures { IfOk result (λ id. id ≡ tree_name N.digest_of (entries_of rows.now)) }
 {
     let contents = contents_of(alloc, rows)?;
-    pool.name_of(Kind::Tree, &contents)
+    objects.name_of(Kind::Tree, &contents)
 }
 
 fn row_of<'a>(entry: &'a (Component, Node), held: Entry) -> TreeEntry<'a>
@@ -119,20 +109,18 @@ fn directory(name: Name) -> Entry
 #[cycle(naming)]
 pub(crate) fn entry_here<N: Naming>(
     alloc: Global,
-    pool: &Pool<N>,
-    table: &Table,
+    objects: &Objects<'_, N>,
     node: &Node,
 ) -> Result<Entry, Memory>
-    requires stands { IsBackedBy N.digest_of pool.now table.now.entries }
-    requires sound { IsHeld (objects pool.now table.now.entries) (held node.now) }
-    requires some { held_files (stored_files (objects pool.now table.now.entries)) (held node.now)
-        ≢ [] }
+    requires sound { IsHeld objects.now (held node.now) }
+    requires some { held_files (stored_files objects.now) (held node.now) ≢ [] }
     ensures { IfOk result (λ e. Some e ≡ stands_at N.digest_of
-        (held_files (stored_files (objects pool.now table.now.entries)) (held node.now)) []) }
+        (held_files (stored_files objects.now) (held node.now)) []) }
 {
+    objects.are_backed();
     match node {
         Node::File(file) => Ok(*file),
         Node::Unopened(name) => Ok(directory(*name)),
-        Node::Opened(dir) => Ok(directory(tree_of(alloc, pool, table, dir)?)),
+        Node::Opened(dir) => Ok(directory(tree_of(alloc, objects, dir)?)),
     }
 }

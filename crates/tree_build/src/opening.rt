@@ -3,9 +3,6 @@
 ghost use Rattle.std.specs.Prelude.{◌≡◌, Some, IsSome, All, IfOk, OnOk};
 ghost use Rattle.git_model.specs.Tree.{IsEntryName, CanWriteEntry};
 ghost use Rattle.git_objects.specs.Parts.{entry_of, entries_of};
-ghost use Rattle.tenant_tables.specs.Objects.{objects};
-ghost use Rattle.tenant_tables.specs.IsBackedBy.{IsBackedBy};
-ghost use Rattle.tenant_tables.specs.View.{summary_of};
 ghost use Rattle.file_maps.specs.StoredTree.{ListsTree};
 ghost use Rattle.file_maps.specs.StoredFiles.{stored_files};
 ghost use Rattle.tree_build.specs.Shape.{shape_files};
@@ -16,12 +13,11 @@ ghost use Rattle.tree_build.specs.Opened.{entry_held, tree_shape, IsOpening, Ope
 use crate::component::Component;
 use crate::dir::{Dir, Entries, Node};
 use crate::names::place_of;
-use content_pool::Pool;
 use file_maps::{Entry, read_entries};
 use git_objects::{FileMode, Memory, Name, Naming, TreeEntry};
 use git_paths::Components;
 use std::alloc::Global;
-use tenant_tables::Table;
+use tenant_tables::Objects;
 
 // The node of an entry of a tree.
 fn node_of(entry: &TreeEntry<'_>) -> Node
@@ -58,20 +54,18 @@ fn rows_of(alloc: Global, entries: &[TreeEntry<'_>]) -> Result<Entries, Memory>
 /// Opens the directory of a stored tree. Takes memory for its entries.
 pub(crate) fn open<N: Naming>(
     alloc: Global,
-    pool: &Pool<N>,
-    table: &Table,
+    objects: &Objects<'_, N>,
     id: &Name,
 ) -> Result<Dir, Memory>
-    requires stands { IsBackedBy N.digest_of pool.now table.now.entries }
-    requires tree { ListsTree (objects pool.now table.now.entries) id.now
-        (stored_files (objects pool.now table.now.entries) id.now) }
-    ensures { IfOk result (λ d. IsOpening (objects pool.now table.now.entries) id.now d) }
+    requires tree { ListsTree objects.now id.now (stored_files objects.now id.now) }
+    ensures { IfOk result (λ d. IsOpening objects.now id.now d) }
 {
-    let entries = read_entries(alloc, pool, table, id)?;
+    objects.are_backed();
+    let entries = read_entries(alloc, objects, id)?;
     Ok(Dir {
         entries: rows_of(alloc, &entries)?,
         tree: Some(*id),
-        place: table.place(id).unwrap_or(0),
+        place: objects.place(id).unwrap_or(0),
     })
 }
 
@@ -81,23 +75,20 @@ pub(crate) fn open<N: Naming>(
 #[tactic(auto, using(crate::proofs::Searched::ordered))]
 pub(crate) fn open_along<N: Naming>(
     alloc: Global,
-    pool: &Pool<N>,
-    table: &Table,
+    objects: &Objects<'_, N>,
     dir: &mut Dir,
     path: &Components<'_>,
     reads: &mut u64,
 ) -> Result<(), Memory>
-    requires stands { IsBackedBy N.digest_of pool.now table.now.entries }
-    requires sound { IsShape (objects pool.now table.now.entries) dir.old.entries }
-    ensures opens { OnOk result (OpensAlong (objects pool.now table.now.entries) path.now
-        dir.old dir.new) }
+    requires sound { IsShape objects.now dir.old.entries }
+    ensures opens { OnOk result (OpensAlong objects.now path.now dir.old dir.new) }
     ensures reads { ReadsMore reads.old reads.new (closed_along dir.old.entries path.now) }
 {
     let Some((name, rest)) = path.split_first() else {
         return Ok(());
     };
     match place_of(&dir.entries, name) {
-        Some(at) => open_below(alloc, pool, table, dir.entries.node_mut(at), &rest, reads),
+        Some(at) => open_below(alloc, objects, dir.entries.node_mut(at), &rest, reads),
         None => Ok(()),
     }
 }
@@ -106,16 +97,13 @@ pub(crate) fn open_along<N: Naming>(
 #[cycle(opening)]
 pub(crate) fn open_below<N: Naming>(
     alloc: Global,
-    pool: &Pool<N>,
-    table: &Table,
+    objects: &Objects<'_, N>,
     node: &mut Node,
     rest: &Components<'_>,
     reads: &mut u64,
 ) -> Result<(), Memory>
-    requires stands { IsBackedBy N.digest_of pool.now table.now.entries }
-    requires sound { IsHeld (objects pool.now table.now.entries) (held node.old) }
-    ensures opens { OnOk result (OpensHeld (objects pool.now table.now.entries) rest.now
-        (held node.old) (held node.new)) }
+    requires sound { IsHeld objects.now (held node.old) }
+    ensures opens { OnOk result (OpensHeld objects.now rest.now (held node.old) (held node.new)) }
     ensures reads { ReadsMore reads.old reads.new (closed_from (held node.old) rest.now) }
 {
     if rest.len() == 0 {
@@ -123,11 +111,11 @@ pub(crate) fn open_below<N: Naming>(
     }
     match node {
         Node::File(_) => Ok(()),
-        Node::Opened(dir) => open_along(alloc, pool, table, dir, rest, reads),
+        Node::Opened(dir) => open_along(alloc, objects, dir, rest, reads),
         Node::Unopened(id) => {
             *reads = reads.saturating_add(1);
-            let mut dir = open(alloc, pool, table, id)?;
-            open_along(alloc, pool, table, &mut dir, rest, reads)?;
+            let mut dir = open(alloc, objects, id)?;
+            open_along(alloc, objects, &mut dir, rest, reads)?;
             *node = Node::Opened(dir);
             Ok(())
         }

@@ -6,8 +6,6 @@
 ghost use Rattle.std.specs.Prelude.{◌≡◌, ◌≢◌, ◌≤◌, [], length, position, false, Some, IfOk, OnOk};
 ghost use Rattle.git_model.specs.Limits.{files_limit};
 ghost use Rattle.git_paths.specs.Paths.{IsComponent};
-ghost use Rattle.tenant_tables.specs.Objects.{objects};
-ghost use Rattle.tenant_tables.specs.IsBackedBy.{IsBackedBy};
 ghost use Rattle.file_maps.specs.StoredFiles.{stored_files};
 ghost use Rattle.tree_build.specs.Shape.{Held, shape_files, held_files};
 ghost use Rattle.tree_build.specs.Branch.{IsDirectory, IsShape, IsHeld, closed_along, closed_from};
@@ -23,12 +21,11 @@ use crate::dir::{Dir, Entries, Node};
 use crate::names::{Found, append, find, insert};
 use crate::opening::open;
 use crate::placing::{place, put_instead};
-use content_pool::Pool;
 use file_maps::Entry;
 use git_objects::{Memory, Naming};
 use git_paths::Components;
 use std::alloc::Global;
-use tenant_tables::Table;
+use tenant_tables::Objects;
 
 fn has_more(path: &Components<'_>) -> bool
     ensures { result ≡ has_more path.now }
@@ -86,27 +83,25 @@ fn put_new(
 #[tactic(auto, using(crate::proofs::Searched::ordered))]
 fn put_over<N: Naming>(
     alloc: Global,
-    pool: &Pool<N>,
-    table: &Table,
+    objects: &Objects<'_, N>,
     entries: &mut Entries,
     at: usize,
     name: &[u8],
     rest: &Components<'_>,
     entry: &Entry,
 ) -> Result<usize, Memory>
-    requires stands { IsBackedBy N.digest_of pool.now table.now.entries }
-    requires sound { IsShape (objects pool.now table.now.entries) (shape_of entries.old.items) }
-    requires few { length (shape_files (stored_files (objects pool.now table.now.entries))
+    requires sound { IsShape objects.now (shape_of entries.old.items) }
+    requires few { length (shape_files (stored_files objects.now)
         (shape_of entries.old.items)) ≤ files_limit }
     requires there { position (has_name name.now) entries.old.items ≡ Some at }
     ensures gone { IfOk result (λ gone. (h : Held)
         → child (shape_of entries.old.items) name.now ≡ Some h
-        → gone ≡ length (held_files (stored_files (objects pool.now table.now.entries)) h)) }
+        → gone ≡ length (held_files (stored_files objects.now) h)) }
     ensures entries { OnOk result (shape_of entries.new.items
         ≡ inserted name.now (new_node rest.now (file_held entry.now))
         (removed (shape_of entries.old.items) name.now)) }
 {
-    let gone = count(pool, table, &entries.at(at).1);
+    let gone = count(objects, &entries.at(at).1);
     put_instead(alloc, entries, at, name, new_node(alloc, rest, entry)?)?;
     Ok(gone)
 }
@@ -117,19 +112,16 @@ fn put_over<N: Naming>(
 #[tactic(auto, using(crate::proofs::Searched::ordered))]
 pub(crate) fn put_along<N: Naming>(
     alloc: Global,
-    pool: &Pool<N>,
-    table: &Table,
+    objects: &Objects<'_, N>,
     dir: &mut Dir,
     path: &Components<'_>,
     entry: &Entry,
     reads: &mut u64,
 ) -> Result<usize, Memory>
-    requires stands { IsBackedBy N.digest_of pool.now table.now.entries }
-    requires sound { IsShape (objects pool.now table.now.entries) dir.old.entries }
-    requires few { length (shape_files (stored_files (objects pool.now table.now.entries))
-        dir.old.entries) ≤ files_limit }
+    requires sound { IsShape objects.now dir.old.entries }
+    requires few { length (shape_files (stored_files objects.now) dir.old.entries) ≤ files_limit }
     requires some { path.now ≢ [] }
-    ensures puts { IfOk result (λ gone. PutsAlong (objects pool.now table.now.entries) path.now
+    ensures puts { IfOk result (λ gone. PutsAlong objects.now path.now
         (file_held entry.now) dir.old dir.new gone) }
     ensures reads { ReadsMore reads.old reads.new (closed_along dir.old.entries path.now) }
 {
@@ -146,42 +138,38 @@ pub(crate) fn put_along<N: Naming>(
     if leads_into(&dir.entries.at(at).1, &rest) {
         return put_inside(
             alloc,
-            pool,
-            table,
+            objects,
             dir.entries.node_mut(at),
             &rest,
             entry,
             reads,
         );
     }
-    put_over(alloc, pool, table, &mut dir.entries, at, name, &rest, entry)
+    put_over(alloc, objects, &mut dir.entries, at, name, &rest, entry)
 }
 
 /// Puts a file at a path below a node that is a directory.
 #[cycle(putting)]
 pub(crate) fn put_inside<N: Naming>(
     alloc: Global,
-    pool: &Pool<N>,
-    table: &Table,
+    objects: &Objects<'_, N>,
     node: &mut Node,
     rest: &Components<'_>,
     entry: &Entry,
     reads: &mut u64,
 ) -> Result<usize, Memory>
-    requires stands { IsBackedBy N.digest_of pool.now table.now.entries }
     requires directory { IsDirectory (held node.old).what }
-    requires sound { IsHeld (objects pool.now table.now.entries) (held node.old) }
-    requires few { length (held_files (stored_files (objects pool.now table.now.entries))
-        (held node.old)) ≤ files_limit }
+    requires sound { IsHeld objects.now (held node.old) }
+    requires few { length (held_files (stored_files objects.now) (held node.old)) ≤ files_limit }
     requires some { rest.now ≢ [] }
-    ensures puts { IfOk result (λ gone. PutsHeld (objects pool.now table.now.entries) rest.now
+    ensures puts { IfOk result (λ gone. PutsHeld objects.now rest.now
         (file_held entry.now) (held node.old) (held node.new) gone) }
     ensures reads { ReadsMore reads.old reads.new (closed_from (held node.old) rest.now) }
 {
     match node {
         Node::File(_) => Ok(0),
-        Node::Opened(dir) => put_along(alloc, pool, table, dir, rest, entry, reads),
-        Node::Unopened(_) => put_unopened(alloc, pool, table, node, rest, entry, reads),
+        Node::Opened(dir) => put_along(alloc, objects, dir, rest, entry, reads),
+        Node::Unopened(_) => put_unopened(alloc, objects, node, rest, entry, reads),
     }
 }
 
@@ -191,29 +179,26 @@ pub(crate) fn put_inside<N: Naming>(
 #[inline(never)]
 fn put_unopened<N: Naming>(
     alloc: Global,
-    pool: &Pool<N>,
-    table: &Table,
+    objects: &Objects<'_, N>,
     node: &mut Node,
     rest: &Components<'_>,
     entry: &Entry,
     reads: &mut u64,
 ) -> Result<usize, Memory>
-    requires stands { IsBackedBy N.digest_of pool.now table.now.entries }
     requires directory { IsDirectory (held node.old).what }
     requires unopened { is_opened (held node.old).what ≡ false }
-    requires sound { IsHeld (objects pool.now table.now.entries) (held node.old) }
-    requires few { length (held_files (stored_files (objects pool.now table.now.entries))
-        (held node.old)) ≤ files_limit }
+    requires sound { IsHeld objects.now (held node.old) }
+    requires few { length (held_files (stored_files objects.now) (held node.old)) ≤ files_limit }
     requires some { rest.now ≢ [] }
-    ensures puts { IfOk result (λ gone. PutsHeld (objects pool.now table.now.entries) rest.now
+    ensures puts { IfOk result (λ gone. PutsHeld objects.now rest.now
         (file_held entry.now) (held node.old) (held node.new) gone) }
     ensures reads { ReadsMore reads.old reads.new (closed_from (held node.old) rest.now) }
 {
     match node {
         Node::Unopened(id) => {
             *reads = reads.saturating_add(1);
-            let mut dir = open(alloc, pool, table, id)?;
-            let gone = put_along(alloc, pool, table, &mut dir, rest, entry, reads)?;
+            let mut dir = open(alloc, objects, id)?;
+            let gone = put_along(alloc, objects, &mut dir, rest, entry, reads)?;
             *node = Node::Opened(dir);
             Ok(gone)
         }

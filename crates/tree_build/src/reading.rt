@@ -1,22 +1,19 @@
-//! What is at a path of a stored tree, read from a table.
+//! What is at a path of a stored tree.
 
 ghost use Rattle.std.specs.Prelude.{◌≡◌, ◌≤◌, ◌+◌, ◌∷◌, length, IfOk};
 ghost use Rattle.std.specs.Option.{option_map};
 ghost use Rattle.git_objects.specs.Parts.{entries_of};
 ghost use Rattle.file_maps.specs.ByComponent.{what};
-ghost use Rattle.tenant_tables.specs.Objects.{objects};
-ghost use Rattle.tenant_tables.specs.IsBackedBy.{IsBackedBy};
 ghost use Rattle.file_maps.specs.Edits.{cut};
 ghost use Rattle.file_maps.specs.StoredFiles.{stored_files};
 ghost use Rattle.file_maps.specs.StoredTree.{ListsTree};
 ghost use Rattle.tree_build.specs.Standing.{stands_at, row_named, IsRow, IsFoundAt};
 
-use content_pool::Pool;
 use file_maps::{Entry, read_entries};
 use git_objects::{FileMode, Memory, Name, Naming, TreeEntry};
 use git_paths::Components;
 use std::alloc::Global;
-use tenant_tables::Table;
+use tenant_tables::Objects;
 
 // The entry of a name among those of a tree.
 fn row_named(rows: &[TreeEntry<'_>], name: &[u8]) -> Option<Entry>
@@ -36,17 +33,14 @@ fn row_named(rows: &[TreeEntry<'_>], name: &[u8]) -> Option<Entry>
 // The entry `name` of the stored tree `tree`.
 fn row_at<N: Naming>(
     alloc: Global,
-    pool: &Pool<N>,
-    table: &Table,
+    objects: &Objects<'_, N>,
     tree: &Name,
     name: &[u8],
 ) -> Result<Option<Entry>, Memory>
-    requires stands { IsBackedBy N.digest_of pool.now table.now.entries }
-    requires tree { ListsTree (objects pool.now table.now.entries) tree.now
-        (stored_files (objects pool.now table.now.entries) tree.now) }
-    ensures { IfOk result (λ o. IsRow (objects pool.now table.now.entries) tree.now name.now o) }
+    requires tree { ListsTree objects.now tree.now (stored_files objects.now tree.now) }
+    ensures { IfOk result (λ o. IsRow objects.now tree.now name.now o) }
 {
-    let rows = read_entries(alloc, pool, table, tree)?;
+    let rows = read_entries(alloc, objects, tree)?;
     Ok(row_named(&rows, name))
 }
 
@@ -55,31 +49,29 @@ fn row_at<N: Naming>(
 #[cycle(reading)]
 pub(crate) fn stored_entry<N: Naming>(
     alloc: Global,
-    pool: &Pool<N>,
-    table: &Table,
+    objects: &Objects<'_, N>,
     tree: &Name,
     name: &[u8],
     rest: &Components<'_>,
     reads: &mut u64,
 ) -> Result<Option<Entry>, Memory>
-    requires stands { IsBackedBy N.digest_of pool.now table.now.entries }
-    requires tree { ListsTree (objects pool.now table.now.entries) tree.now
-        (stored_files (objects pool.now table.now.entries) tree.now) }
+    requires tree { ListsTree objects.now tree.now (stored_files objects.now tree.now) }
     ensures entry { IfOk result (λ o. o ≡ stands_at N.digest_of
-        (stored_files (objects pool.now table.now.entries) tree.now) (name.now ∷ rest.now)) }
-    ensures found { IfOk result (λ o. IsFoundAt (objects pool.now table.now.entries) o
-        (cut (name.now ∷ rest.now) (stored_files (objects pool.now table.now.entries) tree.now))) }
+        (stored_files objects.now tree.now) (name.now ∷ rest.now)) }
+    ensures found { IfOk result (λ o. IsFoundAt objects.now o
+        (cut (name.now ∷ rest.now) (stored_files objects.now tree.now))) }
     ensures counted { reads.old ≤ reads.new }
     ensures bounded { reads.new ≤ reads.old + (1 + length rest.now) }
 {
+    objects.are_backed();
     *reads = reads.saturating_add(1);
-    let Some(row) = row_at(alloc, pool, table, tree, name)? else {
+    let Some(row) = row_at(alloc, objects, tree, name)? else {
         return Ok(None);
     };
     match rest.split_first() {
         None => Ok(Some(row)),
         Some((next, left)) => match row.mode {
-            FileMode::Directory => stored_entry(alloc, pool, table, &row.name, next, &left, reads),
+            FileMode::Directory => stored_entry(alloc, objects, &row.name, next, &left, reads),
             _ => Ok(None),
         },
     }

@@ -28,7 +28,7 @@ use file_maps::{Entry, Fault, add_entries};
 use git_objects::{FileMode, Name, Naming};
 use git_paths::{Components, Path};
 use std::alloc::Global;
-use tenant_tables::Table;
+use tenant_tables::{Objects, Sight, Table};
 
 // Stores the empty tree.
 fn store_none<N: Naming>(
@@ -132,10 +132,13 @@ fn store_path<N: Naming>(
     };
     match node {
         Node::File(_) => store_none(alloc, pool, table),
-        Node::Unopened(tree) => match stored_entry(alloc, pool, table, tree, name, &rest, reads) {
-            Ok(found) => store_found(alloc, pool, table, found),
-            Err(_) => Err(Fault::Memory),
-        },
+        Node::Unopened(tree) => {
+            let objects = Objects::of(pool, table, Sight::All);
+            match stored_entry(alloc, &objects, tree, name, &rest, reads) {
+                Ok(found) => store_found(alloc, pool, table, found),
+                Err(_) => Err(Fault::Memory),
+            }
+        }
         Node::Opened(dir) => store_below(alloc, pool, table, &mut dir.entries, name, &rest, reads),
     }
 }

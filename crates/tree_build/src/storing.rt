@@ -26,7 +26,7 @@ use content_pool::Pool;
 use file_maps::Fault;
 use git_objects::{FileMode, Name, Naming, TreeEntry};
 use std::alloc::Global;
-use tenant_tables::{Fault as TableFault, Summary, Table};
+use tenant_tables::{Fault as TableFault, Objects, Sight, Summary, Table};
 
 /// Stores the trees of an opened directory that are not stored yet. The name of its own tree then
 /// stands in `tree`: to answer it as well would take time at each directory. Where an earlier
@@ -180,7 +180,8 @@ fn add_tree<N: Naming>(
         (shape_files (stored_files (objects pool.old table.old.entries))
         (shape_of entries.now.items))) }
 {
-    match tree_again(pool, table, entries, earlier) {
+    let again = tree_again(&Objects::of(pool, table, Sight::All), entries, earlier);
+    match again {
         Some(name) => Ok(name),
         None => write_tree(alloc, pool, table, entries),
     }

@@ -1,10 +1,12 @@
-use Rattle.file_maps.proofs.Standing.{no_object, no_tree}
+use Rattle.std.proofs.Common.{sym, ap}
+use Rattle.git_model.specs.Content.{content_from}
+use Rattle.file_maps.specs.Grafts.{content_fault}
+use Rattle.file_maps.proofs.Backed.{no-tree}
 use Rattle.file_maps.proofs.grafted.tree_summary.Goals as goal
 
-pub returns-in-Some-find-clause-refusal : goal.returns-in-Some-find-clause-refusal
-returns-in-Some-find-clause-refusal g c =
-    no_tree g.N.Naming.digest_of c.args._pool.now c.args.table.now.entries c.requires c.args.id.now c.in-Some-find.field-0 c.in-Some-find.ensures c.in-None.ensures
+pub returns-in-Some-get-clause-refusal : goal.returns-in-Some-get-clause-refusal
+returns-in-Some-get-clause-refusal g c =
+    no-tree (content_from c.in-Some-get.field-0.0 c.in-Some-get.field-0.1.now) c.in-Some-get.ensures c.in-None.ensures
 
-pub returns-in-None-find-clause-refusal : goal.returns-in-None-find-clause-refusal
-returns-in-None-find-clause-refusal g c =
-    no_object g.N.Naming.digest_of c.args._pool.now c.args.table.now.entries c.requires c.args.id.now c.in-None-find.ensures
+pub returns-in-None-get-clause-refusal : goal.returns-in-None-get-clause-refusal
+returns-in-None-get-clause-refusal g c = ap content_fault (sym c.in-None-get.ensures)

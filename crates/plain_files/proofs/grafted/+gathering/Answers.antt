@@ -7,13 +7,19 @@ use Rattle.file_maps.specs.StoredTree.{HasTree}
 use Rattle.plain_files.proofs.Gathering.{gathers-none, component_at, inside_before, gathers_nothing}
 use Rattle.plain_files.proofs.Gathering.{on_ok, file-gathered, directory-gathered, entry_turn}
 use Rattle.plain_files.proofs.Gathering.{gathers-all, weighs_less, weighs_more}
-use Rattle.file_maps.proofs.Standing.{position_of}
+use Rattle.file_maps.proofs.Standing.{position_of, placed, the_summary}
 use Rattle.plain_files.proofs.grafted.+gathering.Goals as goal
 
 pub gather-returns-then-has_none-clause-gathers : goal.gather-returns-then-has_none-clause-gathers
 gather-returns-then-has_none-clause-gathers g t c =
     gathers_nothing g.N.Naming.digest_of c.args.pool.now c.args.table.now.entries c.requires.stands c.args.id.now c.args.top.now c.args.files.now.items c.requires.tree
     (sym c.has_none.ensures ∙ c.if-has_none.true)
+
+pub gather-read_entries-requires : goal.gather-read_entries-requires
+gather-read_entries-requires g t c =
+    let s = the_summary _ c.requires.tree in
+    let p = placed g.N.Naming.digest_of c.args.pool.now c.args.table.now.entries c.requires.stands c.args.id.now s.0 s.1 in
+    rw c.of.ensures (p.0, p.1.has)
 
 pub gather-loop-entry-init : goal.gather-loop-entry-init
 gather-loop-entry-init g t c = record {
@@ -26,7 +32,7 @@ gather-loop-entry-init g t c = record {
 pub gather-gather_entry-requires : goal.gather-gather_entry-requires
 gather-gather_entry-requires g t c κs within =
     let has =
-    subst (λ (l : List TreeEntry). HasTree (objects c.args.pool.now c.args.table.now.entries) c.args.id.now (entries_of l)) (sym c.deref-entry-items.ensures.value) c.in_ok-entries.ensures in
+    subst (λ (l : List TreeEntry). HasTree (objects c.args.pool.now c.args.table.now.entries) c.args.id.now (entries_of l)) (sym c.deref-entry-items.ensures.value) (rw c.of.ensures at c.in_ok-entries.ensures) in
     let before = λ (dir : c.entry-item.result.mode ≡ mode.Directory).
     inside_before g.N.Naming.digest_of c.args.pool.now c.args.table.now.entries c.requires.stands c.args.id.now c.deref-entry-items.result.now c.loop-entry.entry-index c.entry-item.result has
     c.loop-entry-test.true c.entry-item.is dir in
@@ -62,7 +68,7 @@ gather-returns g t c = record {
       gathers-all
       (objects c.args.pool.now c.args.table.now.entries) c.args.top.now c.args.id.now c.deref-entry-items.result.now c.loop-entry.entry-index c.args.files.now.items c.loop-entry.files.items
       c.loop-entry-test.false
-      (subst (λ (l : List TreeEntry). HasTree (objects c.args.pool.now c.args.table.now.entries) c.args.id.now (entries_of l)) (sym c.deref-entry-items.ensures.value) c.in_ok-entries.ensures)
+      (subst (λ (l : List TreeEntry). HasTree (objects c.args.pool.now c.args.table.now.entries) c.args.id.now (entries_of l)) (sym c.deref-entry-items.ensures.value) (rw c.of.ensures at c.in_ok-entries.ensures))
       c.loop-entry.invariant.gathered;
   paths = c.loop-entry.invariant.paths;
 }

@@ -1,5 +1,4 @@
 use Rattle.std.proofs.Common.{◌≡◌, ◌+◌, ◌*◌, length, drop}
-use Rattle.tenant_tables.specs.Objects.{objects}
 use Rattle.file_maps.specs.StoredFiles.{stored_files}
 use Rattle.tree_build.specs.Shape.{shape_files}
 use Rattle.tree_build.specs.ShapeCode.{shape_size}
@@ -14,5 +13,5 @@ decreases-count_all g l = 2 * shape_size (shape_of l.entries.now.items)
 
 abbrev pub invariant-count_all-loop-place : goal.invariant-count_all-loop-place
 invariant-count_all-loop-place g l =
-    l.files + length (shape_files (stored_files (objects l.pool l.table.entries)) (shape_of (drop l.place l.entries.items)))
-    ≡ length (shape_files (stored_files (objects l.pool l.table.entries)) (shape_of l.entries.items))
+    l.files + length (shape_files (stored_files l.objects) (shape_of (drop l.place l.entries.items)))
+    ≡ length (shape_files (stored_files l.objects) (shape_of l.entries.items))

@@ -1,6 +1,5 @@
 use Rattle.std.proofs.Common.{◌≡◌, ℕ, List, Bool, [], ◌∷◌, length, refl, sym, ap, ◌∙◌, arith, rules}
 use Rattle.std.specs.Prelude.{Option, None}
-use Rattle.tenant_tables.specs.Objects.{objects}
 use Rattle.file_maps.specs.FileMap.{Path}
 use Rattle.file_maps.specs.StoredFiles.{stored_files}
 use Rattle.tree_build.specs.Shape.{Held}
@@ -16,7 +15,7 @@ none_taken known clear (d ∷ path) n = refl
 
 pub taken-taken_below-requires : goal.taken-taken_below-requires
 taken-taken_below-requires g t c κs within =
-    let os = objects c.args.pool.now c.args.table.now.entries in
+    let os = c.args.objects.now in
     let d = c.decreases in
     let n = ap (λ (p : Path). length p) c.in-Some.ensures in
     let found = entry_found c.in-Some.name.now c.args.entries.now.items c.in-Some-place_of.at
@@ -24,11 +23,11 @@ taken-taken_below-requires g t c κs within =
     let e = entry_at os (shape_of c.args.entries.now.items) c.requires.sound c.in-Some.name.now (held c.at.result.now.1) found.stands in
     let m = count_there (stored_files os) (shape_of c.args.entries.now.items) c.in-Some.name.now (held c.at.result.now.1) found.stands in
     let few = c.requires.few in
-    (omega arith, (search (rules, within), (c.requires.stands, ((e.0.sound, e.1), omega arith))))
+    (omega arith, (search (rules, within), ((e.0.sound, e.1), omega arith)))
 
 pub taken-returns-in-Some-place_of : goal.taken-returns-in-Some-place_of
 taken-returns-in-Some-place_of g t c =
-    let os = objects c.args.pool.now c.args.table.now.entries in
+    let os = c.args.objects.now in
     let found = entry_found c.in-Some.name.now c.args.entries.now.items c.in-Some-place_of.at
     (sym c.place_of.ensures ∙ c.in-Some-place_of.is) c.at.result.now c.at.ensures in
     c.taken_below.ensures
@@ -38,7 +37,7 @@ taken-returns-in-Some-place_of g t c =
 
 pub taken-returns-in-None : goal.taken-returns-in-None
 taken-returns-in-None g t c =
-    let os = objects c.args.pool.now c.args.table.now.entries in
+    let os = c.args.objects.now in
     let lacks = name_lacks c.in-Some.name.now c.args.entries.now.items (sym c.place_of.ensures ∙ c.in-None.is) in
     sym (ap (λ (p : Path). taken (stored_files os) c.args.clear p (shape_of c.args.entries.now.items)) c.in-Some.ensures
     ∙ ap (λ (o : Option Held). taken_at (stored_files os) c.args.clear c.in-Some.rest o

@@ -1,5 +1,4 @@
 use Rattle.std.proofs.Common.{◌≡◌, Option, IfOk, sym, ◌∙◌, subst, rules, arith}
-use Rattle.tenant_tables.specs.Objects.{objects}
 use Rattle.file_maps.specs.declared.entry.Entry.{Entry}
 use Rattle.tree_build.specs.Nodes.{has_name}
 use Rattle.tree_build.proofs.Here.{some-at}
@@ -10,24 +9,21 @@ use Rattle.tree_build.proofs.entry.+looking.Goals as goal
 
 pub entry_below-entry_at-requires : goal.entry_below-entry_at-requires
 entry_below-entry_at-requires g t c κs within =
-    let os = objects c.args.pool.now c.args.table.now.entries in
+    let os = c.args.objects.now in
     let lt = (position-Some (has_name c.args.name.now) c.args.entries.now.items c.in-Some.place c.at.result.now (sym c.place_of.ensures ∙ c.in-Some.is)).0 in (
       omega (arith, c.decreases),
       (
         search (rules, within),
         (
-          c.requires.stands,
-          (
-            (sound-at os c.args.entries.now.items c.in-Some.place c.at.result.now lt c.at.ensures c.requires.sound),
-            λ root. (some-at os c.args.entries.now.items c.in-Some.place c.at.result.now lt c.at.ensures c.requires.sound),
-          ),
+          (sound-at os c.args.entries.now.items c.in-Some.place c.at.result.now lt c.at.ensures c.requires.sound),
+          λ root. (some-at os c.args.entries.now.items c.in-Some.place c.at.result.now lt c.at.ensures c.requires.sound),
         ),
       ),
     )
 
 pub entry_below-returns-in-Some : goal.entry_below-returns-in-Some
 entry_below-returns-in-Some g t c =
-    let os = objects c.args.pool.now c.args.table.now.entries in
+    let os = c.args.objects.now in
     subst (λ (x : Option Entry). IfOk c.entry_at.result (λ o. o ≡ x))
     (held-there g.N.Naming.digest_of os c.args.entries.now.items c.requires.sound c.args.name.now c.args.rest.now c.in-Some.place c.at.result.now
     (sym c.place_of.ensures ∙ c.in-Some.is) c.at.ensures)
@@ -35,5 +31,5 @@ entry_below-returns-in-Some g t c =
 
 pub entry_below-returns-in-None : goal.entry_below-returns-in-None
 entry_below-returns-in-None g t c =
-    let os = objects c.args.pool.now c.args.table.now.entries in
+    let os = c.args.objects.now in
     nothing-there g.N.Naming.digest_of os c.args.entries.now.items c.requires.sound c.args.name.now c.args.rest.now (sym c.place_of.ensures ∙ c.in-None.is)

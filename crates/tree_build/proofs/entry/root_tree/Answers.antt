@@ -1,5 +1,4 @@
 use Rattle.std.proofs.Common.{◌≡◌, sym, subst}
-use Rattle.tenant_tables.specs.Objects.{objects}
 use Rattle.file_maps.specs.Trees.{tree_id}
 use Rattle.file_maps.specs.StoredFiles.{stored_files}
 use Rattle.tree_build.specs.declared.dir.Node.{Node}
@@ -11,7 +10,7 @@ use Rattle.tree_build.proofs.entry.root_tree.Goals as goal
 
 pub returns-in-Unopened : goal.returns-in-Unopened
 returns-in-Unopened g c =
-    let os = objects c.args.pool.now c.args.table.now.entries in
+    let os = c.args.objects.now in
     let t = (subst (λ (n : Node). IsHeld os (held n)) c.in-Unopened.is c.requires.sound).0 in
     subst (λ (n : Node). c.in-Unopened.tree ≡ tree_id g.N.Naming.digest_of (held_files (stored_files os) (held n))) (sym c.in-Unopened.is)
-    (known-name g.N.Naming.digest_of c.args.pool.now c.args.table.now.entries c.requires.stands c.in-Unopened.tree (stored_files os c.in-Unopened.tree) t)
+    (known-name g.N.Naming.digest_of c.args.objects.now c.are_backed.ensures c.in-Unopened.tree (stored_files os c.in-Unopened.tree) t)

@@ -1,5 +1,4 @@
 use Rattle.std.proofs.Common.{◌≡◌, ◌+◌, ◌*◌, drop}
-use Rattle.tenant_tables.specs.Objects.{objects}
 use Rattle.tenant_tables.specs.Trees.{both}
 use Rattle.file_maps.specs.Storable.{files_summary}
 use Rattle.file_maps.specs.StoredFiles.{stored_files}
@@ -22,7 +21,7 @@ decreases-extent_of_all g l = 4 * shape_size (shape_of l.entries.now.items)
 
 abbrev pub invariant-extent_of_all-loop-place : goal.invariant-extent_of_all-loop-place
 invariant-extent_of_all-loop-place g l =
-    both l.sum (files_summary (shape_files (stored_files (objects l.pool l.table.entries))
+    both l.sum (files_summary (shape_files (stored_files l.objects)
     (shape_of (drop l.place l.entries.items))))
-    ≡ files_summary (shape_files (stored_files (objects l.pool l.table.entries))
+    ≡ files_summary (shape_files (stored_files l.objects)
     (shape_of l.entries.items))

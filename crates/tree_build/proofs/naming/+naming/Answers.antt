@@ -8,7 +8,6 @@ use Rattle.file_maps.proofs.Nested.{pushed}
 use Rattle.file_maps.proofs.TreeOf
 use Rattle.tree_build.specs.Stores.{parts_of}
 use Rattle.tree_build.proofs.Inside.{entries-inside}
-use Rattle.tenant_tables.specs.Objects.{objects}
 use Rattle.tree_build.specs.Shape.{Directory}
 use Rattle.tree_build.specs.Nodes.{shape_of}
 use Rattle.tree_build.proofs.Here.{here-unopened, here-opened, tree-known, some-at, one-row}
@@ -17,40 +16,37 @@ use Rattle.tree_build.proofs.naming.+naming.Goals as goal
 
 pub entry_here-returns-in-Unopened : goal.entry_here-returns-in-Unopened
 entry_here-returns-in-Unopened g t c =
-    here-unopened g.N.Naming.digest_of c.args.pool.now c.args.table.now.entries c.requires.stands c.args.node.now c.in-Unopened.name c.directory.result
+    here-unopened g.N.Naming.digest_of c.args.objects.now c.are_backed.ensures c.args.node.now c.in-Unopened.name c.directory.result
     c.in-Unopened.is c.requires.sound c.requires.some c.directory.ensures
 
 pub entry_here-returns-in_ok-tree_of-in-Opened : goal.entry_here-returns-in_ok-tree_of-in-Opened
 entry_here-returns-in_ok-tree_of-in-Opened g t c =
-    here-opened g.N.Naming.digest_of c.args.pool.now c.args.table.now.entries c.requires.stands c.args.node.now c.in-Opened.dir c.in_ok-tree_of-in-Opened.field-0 c.directory-in-Opened.result
+    here-opened g.N.Naming.digest_of (stored_files c.args.objects.now) c.args.node.now c.in-Opened.dir c.in_ok-tree_of-in-Opened.field-0 c.directory-in-Opened.result
     c.in-Opened.is c.requires.some c.in_ok-tree_of-in-Opened.ensures c.directory-in-Opened.ensures
 
 pub tree_of-returns-in-Some : goal.tree_of-returns-in-Some
 tree_of-returns-in-Some g t c =
-    tree-known g.N.Naming.digest_of c.args.pool.now c.args.table.now.entries c.requires.stands c.args.dir.now c.in-Some.name
+    tree-known g.N.Naming.digest_of c.args.objects.now c.are_backed.ensures c.args.dir.now c.in-Some.name
     (sym (ap (λ (d : Directory). d.tree) c.dir.view_is) ∙ c.in-Some.is)
     c.requires.sound
 
 pub push_rows-entry_here-requires : goal.push_rows-entry_here-requires
 push_rows-entry_here-requires g t c κs within =
-    let os = objects c.args.pool.now c.args.table.now.entries in
+    let os = c.args.objects.now in
     let size = size-at c.args.entries.now.items c.loop-place.place c.at-entry.result.now (subst (λ (n : ℕ). c.loop-place.place < n) c.len-place-end.ensures c.loop-place-test.true) c.at-entry.ensures in (
       omega (arith, c.decreases, size),
       (
         search (rules, within),
         (
-          c.requires.stands,
-          (
-            sound-at os c.args.entries.now.items c.loop-place.place c.at-entry.result.now (subst (λ (n : ℕ). c.loop-place.place < n) c.len-place-end.ensures c.loop-place-test.true) c.at-entry.ensures c.requires.sound,
-            some-at os c.args.entries.now.items c.loop-place.place c.at-entry.result.now (subst (λ (n : ℕ). c.loop-place.place < n) c.len-place-end.ensures c.loop-place-test.true) c.at-entry.ensures c.requires.sound,
-          ),
+          sound-at os c.args.entries.now.items c.loop-place.place c.at-entry.result.now (subst (λ (n : ℕ). c.loop-place.place < n) c.len-place-end.ensures c.loop-place-test.true) c.at-entry.ensures c.requires.sound,
+          some-at os c.args.entries.now.items c.loop-place.place c.at-entry.result.now (subst (λ (n : ℕ). c.loop-place.place < n) c.len-place-end.ensures c.loop-place-test.true) c.at-entry.ensures c.requires.sound,
         ),
       ),
     )
 
 pub push_rows-loop-place-preserved : goal.push_rows-loop-place-preserved
 push_rows-loop-place-preserved g t c =
-    let os = objects c.args.pool.now c.args.table.now.entries in
+    let os = c.args.objects.now in
     let one = pushed c.push.result c.is_err.result c.push.new.self.items c.loop-place.rows.items c.row_of.result c.is_err.ensures.negation c.if-is_err.false c.push.ensures.items in
     ap entries_of one ∙ map-append entry_of c.loop-place.rows.items (c.row_of.result ∷ [])
     ∙ ap (λ (l : List TreeEntry). l ++ entry_of c.row_of.result ∷ []) c.loop-place.invariant
@@ -62,7 +58,7 @@ push_rows-loop-place-preserved g t c =
 
 pub push_rows-returns : goal.push_rows-returns
 push_rows-returns g t c =
-    let os = objects c.args.pool.now c.args.table.now.entries in
+    let os = c.args.objects.now in
     c.loop-place.invariant
     ∙ ap
     (λ (l : Entries). map (TreeOf.entry_of g.N.Naming.digest_of) (parts_of (stored_files os) (shape_of l)))

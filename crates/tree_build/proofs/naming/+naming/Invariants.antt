@@ -1,6 +1,5 @@
 use Rattle.std.proofs.Common.{◌≡◌, ◌+◌, ◌*◌, map, take}
 use Rattle.git_objects.specs.Parts.{entries_of}
-use Rattle.tenant_tables.specs.Objects.{objects}
 use Rattle.file_maps.specs.StoredFiles.{stored_files}
 use Rattle.file_maps.proofs.TreeOf.{entry_of}
 use Rattle.tree_build.specs.Nodes.{held, shape_of}
@@ -22,4 +21,4 @@ decreases-entry_here g l = 4 * shape_size (held l.node.now).inside + 4
 
 abbrev pub invariant-push_rows-loop-place : goal.invariant-push_rows-loop-place
 invariant-push_rows-loop-place g l =
-    entries_of l.rows.items ≡ map (entry_of g.N.Naming.digest_of) (parts_of (stored_files (objects l.pool l.table.entries)) (shape_of (take l.place l.entries.items)))
+    entries_of l.rows.items ≡ map (entry_of g.N.Naming.digest_of) (parts_of (stored_files l.objects) (shape_of (take l.place l.entries.items)))

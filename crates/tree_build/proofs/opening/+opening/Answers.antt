@@ -1,7 +1,6 @@
 use Rattle.std.proofs.Common.{ℕ, ◌∷◌, length, refl, sym, ap, ◌∙◌, subst, arith, rules}
 use Rattle.std.specs.Prelude.{Option}
 use Rattle.std.proofs.lemmas.Result.{on_ok_weaker}
-use Rattle.tenant_tables.specs.Objects.{objects}
 use Rattle.file_maps.specs.FileMap.{Path}
 use Rattle.tree_build.specs.declared.dir.Node.{Node}
 use Rattle.tree_build.specs.Shape.{opened, Held, Directory}
@@ -17,24 +16,24 @@ use Rattle.tree_build.proofs.opening.+opening.Given.{Over}
 
 pub open_along-returns-in_default-clause-opens : goal.open_along-returns-in_default-clause-opens
 open_along-returns-in_default-clause-opens g t c =
-    opens_none (objects c.args.pool.now c.args.table.now.entries) c.args.dir.now c.requires.sound c.args.path.now
+    opens_none c.args.objects.now c.args.dir.now c.requires.sound c.args.path.now
     (ap (closed_along c.args.dir.now.entries) c.in_default.ensures ∙ closed_root c.args.dir.now.entries)
 
 pub open_along-open_below-requires : goal.open_along-open_below-requires
 open_along-open_below-requires g t c κs within =
     let d = c.decreases in
     let n = ap (λ (p : Path). length p) c.in-Some.ensures in
-    let os = objects c.args.pool.now c.args.table.now.entries in
+    let os = c.args.objects.now in
     let found = node_found c.in-Some.name.now c.dir.inside.entries.items c.in-Some-place_of.at
     (sym c.place_of.ensures ∙ c.in-Some-place_of.is) c.node_mut.result.now c.node_mut.ensures.value in
     let sound = subst (IsShape os) (ap (λ (x : Directory). x.entries) (sym c.dir.view_is)) c.requires.sound in
     let e = entry_at os (shape_of c.dir.inside.entries.items) sound c.in-Some.name.now (held c.node_mut.result.now) found.stands in
-    (omega arith, (search (rules, within), (c.requires.stands, (e.0.sound, e.1))))
+    (omega arith, (search (rules, within), (e.0.sound, e.1)))
 
 pub open_along-returns-in-Some-place_of-clause-opens :
     goal.open_along-returns-in-Some-place_of-clause-opens
 open_along-returns-in-Some-place_of-clause-opens g t c =
-    let os = objects c.args.pool.now c.args.table.now.entries in
+    let os = c.args.objects.now in
     let found = node_found c.in-Some.name.now c.dir.inside.entries.items c.in-Some-place_of.at
     (sym c.place_of.ensures ∙ c.in-Some-place_of.is) c.node_mut.result.now c.node_mut.ensures.value in
     let sound = subst (IsShape os) (ap (λ (x : Directory). x.entries) (sym c.dir.view_is)) c.requires.sound in
@@ -60,7 +59,7 @@ open_along-returns-in-Some-place_of-clause-reads g t c =
 pub open_along-returns-in-None-clause-opens : goal.open_along-returns-in-None-clause-opens
 open_along-returns-in-None-clause-opens g t c =
     let lacks = name_lacks c.in-Some.name.now c.dir.inside.entries.items (sym c.place_of.ensures ∙ c.in-None.is) in
-    opens_none (objects c.args.pool.now c.args.table.now.entries) c.args.dir.now c.requires.sound c.args.path.now
+    opens_none c.args.objects.now c.args.dir.now c.requires.sound c.args.path.now
     (ap (closed_along c.args.dir.now.entries) c.in-Some.ensures
     ∙ ap (λ (x : Directory). closed_along x.entries (c.in-Some.name.now ∷ c.in-Some.rest)) (sym c.dir.view_is)
     ∙ closed_at (shape_of c.dir.inside.entries.items) c.in-Some.name.now c.in-Some.rest
@@ -69,7 +68,7 @@ open_along-returns-in-None-clause-opens g t c =
 pub open_below-returns-then-len-eq0-clause-opens :
     goal.open_below-returns-then-len-eq0-clause-opens
 open_below-returns-then-len-eq0-clause-opens g t c =
-    opens_here (objects c.args.pool.now c.args.table.now.entries) (held c.args.node.now) c.requires.sound
+    opens_here c.args.objects.now (held c.args.node.now) c.requires.sound
     c.args.rest.now (sym c.len.ensures ∙ c.if-len-eq0.true)
 
 pub open_below-returns-in_err-dir-in-Unopened-clause-reads :
@@ -107,8 +106,8 @@ pub open_below-returns-in_ok-open_along-in-Unopened-clause-opens :
     goal.open_below-returns-in_ok-open_along-in-Unopened-clause-opens
 open_below-returns-in_ok-open_along-in-Unopened-clause-opens g t c =
     let d = c.open_along-in-Unopened.new.dir in
-    subst (λ (n : Node). OpensHeld (objects c.args.pool.now c.args.table.now.entries) c.args.rest.now (held n) (record { what = opened d.tree; inside = d.entries }))
+    subst (λ (n : Node). OpensHeld c.args.objects.now c.args.rest.now (held n) (record { what = opened d.tree; inside = d.entries }))
     (sym c.in-Unopened.is)
-    (opens_unopened (objects c.args.pool.now c.args.table.now.entries) c.args.rest.now c.in-Unopened.id
+    (opens_unopened c.args.objects.now c.args.rest.now c.in-Unopened.id
     c.in_ok-dir-in-Unopened.dir d c.in_ok-dir-in-Unopened.ensures c.in_ok-open_along-in-Unopened.ensures.opens
-    (subst (λ (n : Node). IsHeld (objects c.args.pool.now c.args.table.now.entries) (held n)) c.in-Unopened.is c.requires.sound).0)
+    (subst (λ (n : Node). IsHeld c.args.objects.now (held n)) c.in-Unopened.is c.requires.sound).0)

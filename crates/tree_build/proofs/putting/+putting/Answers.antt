@@ -2,7 +2,6 @@ use Rattle.std.proofs.Common.{◌≡◌, ◌≤◌, ℕ, List, ◌∷◌, length
 use Rattle.std.specs.Prelude.{Option, None}
 use Rattle.std.proofs.lemmas.List.{get_or_default}
 use Rattle.std.proofs.lemmas.Result.{IfOk-weaker}
-use Rattle.tenant_tables.specs.Objects.{objects}
 use Rattle.file_maps.specs.FileMap.{Path, Listed}
 use Rattle.file_maps.specs.StoredFiles.{stored_files}
 use Rattle.tree_build.specs.declared.dir.Node.{Node}
@@ -27,7 +26,7 @@ pub put_along-put_inside-requires : goal.put_along-put_inside-requires
 put_along-put_inside-requires g t c κs within =
     let d = c.decreases in
     let n = ap (λ (p : Path). length p) c.in-Some.ensures in
-    let os = objects c.args.pool.now c.args.table.now.entries in
+    let os = c.args.objects.now in
     let es = c.dir.inside.entries.items in
     let found = node_found c.in-Some.name.now es c.in-At.at (sym c.find-found.ensures.place ∙ ap place_found c.in-At.is)
     c.node_mut.result.now c.node_mut.ensures.value in
@@ -41,11 +40,8 @@ put_along-put_inside-requires g t c κs within =
       (
         search (rules, within),
         (
-          c.requires.stands,
-          (
-            leads_directory (held c.node_mut.result.now).what c.in-Some.rest leads,
-            ((e.0.sound, e.1), (omega arith, leads_more (held c.node_mut.result.now).what c.in-Some.rest leads)),
-          ),
+          leads_directory (held c.node_mut.result.now).what c.in-Some.rest leads,
+          ((e.0.sound, e.1), (omega arith, leads_more (held c.node_mut.result.now).what c.in-Some.rest leads)),
         ),
       ),
     )
@@ -53,7 +49,7 @@ put_along-put_inside-requires g t c κs within =
 pub put_along-returns-then-leads_into-clause-puts :
     goal.put_along-returns-then-leads_into-clause-puts
 put_along-returns-then-leads_into-clause-puts g t c =
-    let os = objects c.args.pool.now c.args.table.now.entries in
+    let os = c.args.objects.now in
     let es = c.dir.inside.entries.items in
     let found = node_found c.in-Some.name.now es c.in-At.at (sym c.find-found.ensures.place ∙ ap place_found c.in-At.is)
     c.node_mut.result.now c.node_mut.ensures.value in
@@ -92,7 +88,7 @@ no_place Absent h = refl
 pub put_along-returns-in_default-found-clause-puts :
     goal.put_along-returns-in_default-found-clause-puts
 put_along-returns-in_default-found-clause-puts g t c =
-    let os = objects c.args.pool.now c.args.table.now.entries in
+    let os = c.args.objects.now in
     let es = c.dir.inside.entries.items in
     let lacks = name_lacks c.in-Some.name.now es (sym c.find-found.ensures.place ∙ no_place c.find-found.result c.in_default-found.not-At) in
     let had : c.args.dir.now.entries ≡ shape_of es = ap (λ (x : Directory). x.entries) (sym c.dir.view_is) in
@@ -105,11 +101,11 @@ put_along-returns-in_default-found-clause-puts g t c =
 
 pub put_along-put_over-requires-clause-sound : goal.put_along-put_over-requires-clause-sound
 put_along-put_over-requires-clause-sound g t c =
-    subst (IsShape (objects c.args.pool.now c.args.table.now.entries)) (ap (λ (x : Directory). x.entries) (sym c.dir.view_is)) c.requires.sound
+    subst (IsShape c.args.objects.now) (ap (λ (x : Directory). x.entries) (sym c.dir.view_is)) c.requires.sound
 
 pub put_along-put_over-requires-clause-few : goal.put_along-put_over-requires-clause-few
 put_along-put_over-requires-clause-few g t c =
-    subst (λ (x : Directory). length (shape_files (stored_files (objects c.args.pool.now c.args.table.now.entries)) x.entries) ≤ 1048576) (sym c.dir.view_is) c.requires.few
+    subst (λ (x : Directory). length (shape_files (stored_files c.args.objects.now) x.entries) ≤ 1048576) (sym c.dir.view_is) c.requires.few
 
 pub put_along-put_over-requires-clause-there : goal.put_along-put_over-requires-clause-there
 put_along-put_over-requires-clause-there g t c = sym c.find-found.ensures.place ∙ ap place_found c.in-At.is
@@ -121,7 +117,7 @@ both (Err e) P Q R p q f = tt
 
 pub put_along-returns-clause-puts : goal.put_along-returns-clause-puts
 put_along-returns-clause-puts g t c =
-    let os = objects c.args.pool.now c.args.table.now.entries in
+    let os = c.args.objects.now in
     let es = c.dir.inside.entries.items in
     let found = entry_found c.in-Some.name.now es c.in-At.at (sym c.find-found.ensures.place ∙ ap place_found c.in-At.is)
     c.at.result.now c.at.ensures in
@@ -136,12 +132,12 @@ put_along-returns-clause-puts g t c =
 
 pub put_unopened-put_along-requires : goal.put_unopened-put_along-requires
 put_unopened-put_along-requires g t c κs within =
-    let os = objects c.args.pool.now c.args.table.now.entries in
+    let os = c.args.objects.now in
     let d = c.decreases in
     let o = c.in_ok-dir-in-Unopened.ensures in
     let few = subst (λ (n : Node). length (held_files (stored_files os) (held n)) ≤ 1048576) c.in-Unopened.is c.requires.few in
     let n = ap (λ (fs : Listed). length fs) o.files in
-    (omega arith, (search (rules, within), (c.requires.stands, (o.sound, (omega arith, c.requires.some)))))
+    (omega arith, (search (rules, within), (o.sound, (omega arith, c.requires.some))))
 
 -- a directory that had to be opened counts as one
 reads_more : (g : Over) (t : ℕ) (c : put_unopened-After-put_along g t)
@@ -166,7 +162,7 @@ put_unopened-returns-in_ok-gone-in-Unopened-clause-reads g t c =
 pub put_unopened-returns-in_ok-gone-in-Unopened-clause-puts :
     goal.put_unopened-returns-in_ok-gone-in-Unopened-clause-puts
 put_unopened-returns-in_ok-gone-in-Unopened-clause-puts g t c =
-    let os = objects c.args.pool.now c.args.table.now.entries in
+    let os = c.args.objects.now in
     let d = c.put_along.new.dir in
     subst (λ (n : Node). PutsHeld os c.args.rest.now (file_held c.args.entry.now) (held n) (record { what = opened d.tree; inside = d.entries }) c.in_ok-gone-in-Unopened.gone)
     (sym c.in-Unopened.is)

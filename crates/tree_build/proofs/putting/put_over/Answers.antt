@@ -1,5 +1,4 @@
 use Rattle.std.proofs.Common.{length, sym, ap, ◌∙◌, arith}
-use Rattle.tenant_tables.specs.Objects.{objects}
 use Rattle.file_maps.specs.StoredFiles.{stored_files}
 use Rattle.tree_build.specs.Shape.{Held, held_files}
 use Rattle.tree_build.specs.Nodes.{held, shape_of}
@@ -10,14 +9,14 @@ use Rattle.tree_build.proofs.putting.put_over.Goals as goal
 
 pub count-gone-requires-clause-sound : goal.count-gone-requires-clause-sound
 count-gone-requires-clause-sound g c =
-    let os = objects c.args.pool.now c.args.table.now.entries in
+    let os = c.args.objects.now in
     let es = c.args.entries.now.items in
     let found = entry_found c.args.name.now es c.args.at c.requires.there c.at.result.now c.at.ensures in
     let e = entry_at os (shape_of es) c.requires.sound c.args.name.now (held c.at.result.now.1) found.stands in (e.0.sound, e.1)
 
 pub count-gone-requires-clause-few : goal.count-gone-requires-clause-few
 count-gone-requires-clause-few g c =
-    let os = objects c.args.pool.now c.args.table.now.entries in
+    let os = c.args.objects.now in
     let es = c.args.entries.now.items in
     let found = entry_found c.args.name.now es c.args.at c.requires.there c.at.result.now c.at.ensures in
     let few = c.requires.few in
@@ -26,7 +25,7 @@ count-gone-requires-clause-few g c =
 
 pub returns-clause-gone : goal.returns-clause-gone
 returns-clause-gone g c = λ h there.
-    let os = objects c.args.pool.now c.args.table.now.entries in
+    let os = c.args.objects.now in
     let es = c.args.entries.now.items in
     let found = entry_found c.args.name.now es c.args.at c.requires.there c.at.result.now c.at.ensures in
     c.count-gone.ensures

@@ -44,7 +44,7 @@ store_path-returns-in-File-clause-sound g t c =
 pub store_path-returns-in-Ok-clause-sound : goal.store_path-returns-in-Ok-clause-sound
 store_path-returns-in-Ok-clause-sound g t c =
     let os = objects c.args.pool.now c.args.table.now.entries in
-    let stores = c.store_found.ensures (cut (c.in-Some.name.now ∷ c.in-Some.rest) (stored_files os c.in-Unopened.tree)) c.in-Ok.ensures.found in
+    let stores = c.store_found.ensures (cut (c.in-Some.name.now ∷ c.in-Some.rest) (stored_files os c.in-Unopened.tree)) (rw c.of-objects.ensures at c.in-Ok.ensures.found) in
     let grows = stores-grow g.N.Naming.digest_of c.store_found.result c.args.pool.now c.store_found.new.pool c.args.table.now c.store_found.new.table _ _ stores in
     (held-later _ _ grows (record { what = unopened c.in-Unopened.tree; inside = none })
     (subst (λ (n : Node). IsHeld os (held n)) c.in-Unopened.is c.requires.sound)).1
@@ -54,7 +54,7 @@ store_path-returns-in-Ok-clause-stores g t c =
     let k = stored_files (objects c.args.pool.now c.args.table.now.entries) in
     subst (λ (p : Path). StoresFiles g.N.Naming.digest_of c.store_found.result c.args.pool.now c.args.table.now c.store_found.new.pool c.store_found.new.table (cut p (held_files k (held c.args.node.now)))) (sym c.in-Some.ensures)
     (subst (λ (n : Node). StoresFiles g.N.Naming.digest_of c.store_found.result c.args.pool.now c.args.table.now c.store_found.new.pool c.store_found.new.table (cut (c.in-Some.name.now ∷ c.in-Some.rest) (held_files k (held n)))) (sym c.in-Unopened.is)
-    (c.store_found.ensures (cut (c.in-Some.name.now ∷ c.in-Some.rest) (k c.in-Unopened.tree)) c.in-Ok.ensures.found))
+    (c.store_found.ensures (cut (c.in-Some.name.now ∷ c.in-Some.rest) (k c.in-Unopened.tree)) (rw c.of-objects.ensures at c.in-Ok.ensures.found)))
 
 pub store_path-returns-in-Opened-clause-stores : goal.store_path-returns-in-Opened-clause-stores
 store_path-returns-in-Opened-clause-stores g t c =

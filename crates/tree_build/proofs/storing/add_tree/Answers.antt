@@ -8,7 +8,7 @@ pub returns-in-Some-clause-stores : goal.returns-in-Some-clause-stores
 returns-in-Some-clause-stores g c =
     tree-kept g.N.Naming.digest_of c.args.pool.now c.args.table.now c.requires.stands
     (shape_of c.args.entries.now.items) c.requires.sound c.requires.named c.requires.storable
-    c.requires.room c.in-Some.ensures.ids c.in-Some.name c.in-Some.ensures.there
+    c.requires.room c.in-Some.ensures.ids c.in-Some.name (rw c.of.ensures at c.in-Some.ensures.there)
 
 pub returns-in-Some-clause-lists : goal.returns-in-Some-clause-lists
 returns-in-Some-clause-lists g c =
@@ -18,4 +18,4 @@ returns-in-Some-clause-lists g c =
     c.args.pool.now c.args.table.now (Ok c.in-Some.name)
     (tree-kept g.N.Naming.digest_of c.args.pool.now c.args.table.now c.requires.stands
     (shape_of c.args.entries.now.items) c.requires.sound c.requires.named c.requires.storable
-    c.requires.room c.in-Some.ensures.ids c.in-Some.name c.in-Some.ensures.there)
+    c.requires.room c.in-Some.ensures.ids c.in-Some.name (rw c.of.ensures at c.in-Some.ensures.there))

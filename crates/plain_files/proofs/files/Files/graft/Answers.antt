@@ -1,5 +1,7 @@
-use Rattle.std.proofs.Common.{Result, Err, sym, ap, ◌∙◌, subst}
+use Rattle.std.proofs.Common.{Result, Err, Option, refl, sym, ap, ◌∙◌, subst}
+use Rattle.std.specs.Prelude.{IsSome}
 use Rattle.std.proofs.lemmas.Result.{err_from_is_err_and}
+use Rattle.tenant_tables.specs.declared.summary.Summary.{Summary}
 use Rattle.tenant_tables.specs.Objects.{objects}
 use Rattle.file_maps.specs.declared.fault.Fault.{Fault}
 use Rattle.file_maps.specs.declared.fault.Fault.TheVariants as fault
@@ -8,6 +10,7 @@ use Rattle.file_maps.specs.Edits.{moved, put_tree_at, put_fault}
 use Rattle.file_maps.specs.Grafts.{Grafts}
 use Rattle.plain_files.specs.Gathers.{Gathers}
 use Rattle.file_maps.proofs.Listing.{tree-apart, tree-sound}
+use Rattle.file_maps.proofs.Backed.{summary-there}
 use Rattle.file_maps.proofs.Standing.{tree-lists, tree-summary}
 use Rattle.plain_files.proofs.Grafting.{too_large, grafts-memory, gathered-below, gathered-apart}
 use Rattle.plain_files.proofs.Grafting.{grafts-put}
@@ -17,7 +20,7 @@ use Rattle.plain_files.proofs.files.Files.graft.Goals as goal
 pub returns-then-not-is_small : goal.returns-then-not-is_small
 returns-then-not-is_small g c =
     let os = objects c.args.pool.now c.args.table.now.entries in
-    let summary = c.in_ok-tree_summary.ensures.tree in
+    let summary = (summary-there g.N.Naming.digest_of c.args.pool.now c.args.table.now.entries c.requires.stands c.args.name.now c.in_ok-tree_summary.field-0 (rw c.of.ensures at c.in_ok-tree_summary.ensures.tree)) in
     let t = tree-lists g.N.Naming.digest_of c.args.pool.now c.args.table.now.entries c.requires.stands c.args.name.now c.in_ok-tree_summary.field-0 summary in
     let sum = tree-summary g.N.Naming.digest_of c.args.pool.now c.args.table.now.entries c.requires.stands c.args.name.now c.in_ok-tree_summary.field-0 t.0 summary t.1 in
     let refusal =
@@ -34,11 +37,16 @@ returns-then-not-is_small g c =
       λ i. c.args.self.now,
     ))
 
+pub gather-requires-clause-tree : goal.gather-requires-clause-tree
+gather-requires-clause-tree g c =
+    subst (λ (o : Option Summary). IsSome o)
+    (sym (summary-there g.N.Naming.digest_of c.args.pool.now c.args.table.now.entries c.requires.stands c.args.name.now c.in_ok-tree_summary.field-0 (rw c.of.ensures at c.in_ok-tree_summary.ensures.tree))) refl
+
 pub returns-in_err-gather : goal.returns-in_err-gather
 returns-in_err-gather g c =
     let os = objects c.args.pool.now c.args.table.now.entries in
     let failed = err_from_is_err_and c.from_residual-in_err-gather.result c.from_residual-in_err-gather.ensures.1 in
-    let t = tree-lists g.N.Naming.digest_of c.args.pool.now c.args.table.now.entries c.requires.stands c.args.name.now c.in_ok-tree_summary.field-0 c.in_ok-tree_summary.ensures.tree in
+    let t = tree-lists g.N.Naming.digest_of c.args.pool.now c.args.table.now.entries c.requires.stands c.args.name.now c.in_ok-tree_summary.field-0 (summary-there g.N.Naming.digest_of c.args.pool.now c.args.table.now.entries c.requires.stands c.args.name.now c.in_ok-tree_summary.field-0 (rw c.of.ensures at c.in_ok-tree_summary.ensures.tree)) in
     subst
     (λ (r : Result (Unit {0}) Fault). Grafts r os c.args.name.now c.args.path.now c.args.self.now c.args.self.now)
     (sym (failed.1 ∙ ap (λ (e : Fault). Err e) failed.2))

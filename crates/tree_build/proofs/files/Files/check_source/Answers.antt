@@ -1,6 +1,5 @@
 use Rattle.std.proofs.Common.{◌≡◌, refl, sym, ap, ◌∙◌, subst}
 use Rattle.std.specs.Prelude.{Option, None, Some, OnOk, IfErr}
-use Rattle.tenant_tables.specs.Objects.{objects}
 use Rattle.file_maps.specs.declared.fault.Fault.{Fault}
 use Rattle.file_maps.specs.Edits.{files_at, moved}
 use Rattle.file_maps.specs.FileMap.{Listed}
@@ -17,12 +16,12 @@ use Rattle.tree_build.proofs.files.Files.check_source.Given.{Over}
 
 pub find_at-requires : goal.find_at-requires
 find_at-requires g c =
-    let os = objects c.args.pool.now c.args.table.now.entries in
+    let os = c.args.objects.now in
     ordered_held os _ (subst (IsBranch os) (sym c.self.view_is) c.requires.branch).held
 
 -- the source
 source : (g : Over) (c : In-Some g)
-    → (let os = objects c.args.pool.now c.args.table.now.entries in
+    → (let os = c.args.objects.now in
     IsThere os (files_at (files_in os c.args.self.now) c.args.from.now) (held c.in-Some.node.now))
 source g c =
     stood c.requires.branch c.args.from.now c.requires.shut refl refl (held c.in-Some.node.now)
@@ -57,7 +56,7 @@ returns-in_default-clause-err g c =
 
 pub returns-then-is_no_longer-clause-ok : goal.returns-then-is_no_longer-clause-ok
 returns-then-is_no_longer-clause-ok g c =
-    let os = objects c.args.pool.now c.args.table.now.entries in
+    let os = c.args.objects.now in
     let there = source g (goal.at.returns-then-is_no_longer-clause-ok g c).In-Some in
     let some = entries_have_files os (held c.in-Some.node.now) there.held (sym c.has_entries.ensures ∙ c.if-has_entries.true) in
     clean_no_longer (files_in os c.args.self.now) c.requires.branch.files c.args.to.now c.args.from.now

@@ -18,22 +18,22 @@ returns-in_err-node-clause-edits g c =
     (failed.1 ∙ ap (λ (e : Fault). Err e) failed.2)
     old (files_in os c.copy_from.new.self) (moved c.args.to.now (files_at old c.args.from.now))
     (copied old c.args.from.now c.args.to.now)
-    c.in_err-node.ensures.refusal c.in_err-node.ensures.files
+    (rw c.of-objects.ensures at c.in_err-node.ensures.refusal) (rw c.of-objects.ensures at c.in_err-node.ensures.files)
 
 pub put_moved-requires-clause-few : goal.put_moved-requires-clause-few
 put_moved-requires-clause-few g c =
     let os = objects c.args.pool.now c.args.table.now.entries in
-    subst (λ (n : ℕ). n ≤ 1048576) (sym c.in_ok-node.ensures.moved.count)
+    subst (λ (n : ℕ). n ≤ 1048576) (sym (rw c.of-objects.ensures at c.in_ok-node.ensures.moved.count))
     (few-moved (files_in os c.args.self.now) c.args.from.now c.requires.branch.files)
 
 pub put_moved-requires-clause-good : goal.put_moved-requires-clause-good
-put_moved-requires-clause-good g c = λ few.
+put_moved-requires-clause-good g c = rw c.of-objects.ensures (λ few.
     let os = objects c.args.pool.now c.args.table.now.entries in
     let old = files_in os c.args.self.now in
-    good-put old old (files_in os c.copy_from.new.self) (c.in_ok-node.ensures.files (λ e. cc e))
+    good-put old old (files_in os c.copy_from.new.self) ((rw c.of-objects.ensures at c.in_ok-node.ensures.files) (λ e. cc e))
     c.args.from.now c.args.to.now c.requires.branch.files c.requires.branch.files
     (subst IsPath c.components.ensures c.has_components.ensures)
-    _ c.in_ok-node.ensures.moved.files c.in_ok-node.ensures.clean few
+    _ (rw c.of-objects.ensures at c.in_ok-node.ensures.moved.files) (rw c.of-objects.ensures at c.in_ok-node.ensures.clean) few)
 
 pub returns-clause-edits : goal.returns-clause-edits
 returns-clause-edits g c =
@@ -41,5 +41,5 @@ returns-clause-edits g c =
     let old = files_in os c.args.self.now in
     edits-copied c.put_moved.result (files_in os c.copy_from.new.self) old
     (files_in os c.put_moved.new.self)
-    (c.in_ok-node.ensures.files (λ e. cc e)) c.args.from.now c.args.to.now
-    _ c.in_ok-node.ensures.moved.files c.in_ok-node.ensures.clean c.put_moved.ensures.edits
+    ((rw c.of-objects.ensures at c.in_ok-node.ensures.files) (λ e. cc e)) c.args.from.now c.args.to.now
+    _ (rw c.of-objects.ensures at c.in_ok-node.ensures.moved.files) (rw c.of-objects.ensures at c.in_ok-node.ensures.clean) (rw c.of-objects.ensures at c.put_moved.ensures.edits)

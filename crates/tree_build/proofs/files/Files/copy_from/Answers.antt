@@ -1,7 +1,6 @@
 use Rattle.std.proofs.Common.{◌≡◌, ◌≢◌, ℕ, length, sym, ap, ◌∙◌, subst}
 use Rattle.std.specs.Prelude.{Some, Result, Err, IfErr}
 use Rattle.std.proofs.lemmas.Result.{err_from_is_err_and}
-use Rattle.tenant_tables.specs.Objects.{objects}
 use Rattle.tenant_tables.specs.declared.summary.Summary.{Summary}
 use Rattle.file_maps.specs.declared.fault.Fault.{Fault}
 use Rattle.file_maps.specs.declared.fault.Fault.TheVariants as fault
@@ -20,28 +19,28 @@ use Rattle.tree_build.proofs.files.Files.copy_from.Given.{Over}
 
 pub copy_at-requires : goal.copy_at-requires
 copy_at-requires g c =
-    let os = objects c.args.pool.now c.args.table.now.entries in
+    let os = c.args.objects.now in
     ordered_held os _ (subst (IsBranch os) (sym c.self.view_is) c.in_ok-open_to.ensures.branch).held
 
 pub returns-in_default-clause-refusal : goal.returns-in_default-clause-refusal
 returns-in_default-clause-refusal g c = λ _.
-    let os = objects c.args.pool.now c.args.table.now.entries in
+    let os = c.args.objects.now in
     let b = subst (IsBranch os) (sym c.self.view_is) c.in_ok-open_to.ensures.branch in
     let shut = subst (λ (x : Branch). closed_from x.root c.components-from.result ≡ 0) (sym c.self.view_is) c.in_ok-open_to.ensures.shut in
     ap (λ (l : Listed). path_fault (moved c.args.to.now l))
-    (nothing-there g.N.Naming.digest_of c.args.pool.now c.args.table.now.entries c.requires.stands b c.components-from.result shut
+    (nothing-there g.N.Naming.digest_of c.args.objects.now c.are_backed.ensures b c.components-from.result shut
     (ap (files_in os) c.self.view_is ∙ c.in_ok-open_to.ensures.files) c.components-from.ensures
     c.in_ok-node.field-0 c.in_default.is c.in_ok-node.ensures)
 
 -- the copy
 copy : (g : Over) (c : In-Some g)
-    → (let os = objects c.args.pool.now c.args.table.now.entries in
+    → (let os = c.args.objects.now in
     IsThere os (files_at (files_in os c.args.self.now) c.args.from.now) (held c.in-Some.node))
 copy g c =
-    let os = objects c.args.pool.now c.args.table.now.entries in
+    let os = c.args.objects.now in
     let b = subst (IsBranch os) (sym c.self.view_is) c.in_ok-open_to.ensures.branch in
     let shut = subst (λ (x : Branch). closed_from x.root c.components-from.result ≡ 0) (sym c.self.view_is) c.in_ok-open_to.ensures.shut in
-    found g.N.Naming.digest_of c.args.pool.now c.args.table.now.entries c.requires.stands b c.components-from.result shut
+    found g.N.Naming.digest_of c.args.objects.now c.are_backed.ensures b c.components-from.result shut
     (ap (files_in os) c.self.view_is ∙ c.in_ok-open_to.ensures.files) c.components-from.ensures
     c.in_ok-node.field-0 c.in-Some.node c.in-Some.is c.in_ok-node.ensures
 
@@ -57,7 +56,7 @@ check_move-requires g c =
 
 pub returns-in_err-check_move-clause-refusal : goal.returns-in_err-check_move-clause-refusal
 returns-in_err-check_move-clause-refusal g c =
-    let os = objects c.args.pool.now c.args.table.now.entries in
+    let os = c.args.objects.now in
     let there = copy g (goal.at.returns-in_err-check_move-clause-refusal g c).In-Some in
     let why = fault-there there c.args.to.now c.extent-files.result c.extent-files.ensures in
     let failed = err_from_is_err_and c.from_residual-in_err-check_move.result c.from_residual-in_err-check_move.ensures.1 in

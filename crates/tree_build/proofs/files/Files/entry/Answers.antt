@@ -19,7 +19,7 @@ returns-then-is_root g c =
     let b = c.args.self.now in
     let root = ap (λ (x : Branch). held_files (stored_files os) x.root) c.self.view_is in
     ap (λ (id : List ℕ). Some (record { mode = mode.Directory; name = id }))
-    (c.in_ok-name.ensures ∙ ap (tree_id g.N.Naming.digest_of) root)
+    ((rw c.of-objects.ensures at c.in_ok-name.ensures) ∙ ap (tree_id g.N.Naming.digest_of) root)
     ∙ entry-root g.N.Naming.digest_of (files_in os b) (root_files os b) (branch_listed os b c.requires.branch.held)
     (root-file os b.root c.requires.branch.directory c.requires.branch.held)
     ∙ ap (λ (p : Path). entry_at g.N.Naming.digest_of (files_in os b) p) (sym (c.if-is_root.ensures.0 refl))
@@ -34,4 +34,4 @@ returns g c =
     ∙ ap (λ fs. stands_at g.N.Naming.digest_of fs c.args.path.now) root
     ∙ entry-path g.N.Naming.digest_of (files_in os b) (root_files os b) (branch_listed os b c.requires.branch.held) c.args.path.now
     (λ is. let no = c.if-is_root.ensures.1 is in cc no))
-    c.entry_at.ensures
+    (rw c.of-objects.ensures at c.entry_at.ensures)

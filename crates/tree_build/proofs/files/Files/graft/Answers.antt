@@ -6,6 +6,7 @@ use Rattle.file_maps.specs.declared.fault.Fault.TheVariants as fault
 use Rattle.file_maps.specs.FileMap.{Path}
 use Rattle.file_maps.specs.Storable.{files_summary}
 use Rattle.file_maps.specs.StoredFiles.{stored_files}
+use Rattle.file_maps.proofs.Backed.{of_table}
 use Rattle.file_maps.proofs.Grafting.{grafts-edits}
 use Rattle.tree_build.specs.Branch.{files_in}
 use Rattle.tree_build.specs.Limits.{may_stand}
@@ -20,8 +21,7 @@ put : (g : Over) (c : In_ok-summary g)
     → IsStored (objects c.args.pool.now c.args.table.now.entries) c.args.name.now
     c.in_ok-summary.summary
 put g c =
-    tree-here g.N.Naming.digest_of c.args.pool.now c.args.table.now.entries c.requires.stands
-    c.args.name.now c.in_ok-summary.summary c.in_ok-summary.ensures.tree
+    tree-here c.in_ok-summary.summary (rw c.of-objects.ensures at c.in_ok-summary.ensures.tree)
 
 -- whether its files may stand at the path
 stand : (g : Over) (c : After-may_stand g) (b : Bool) → c.may_stand.result ≡ b
@@ -29,8 +29,7 @@ stand : (g : Over) (c : After-may_stand g) (b : Bool) → c.may_stand.result ≡
     (files_summary
     (stored_files (objects c.args.pool.now c.args.table.now.entries) c.args.name.now)) ≡ b
 stand g c b is =
-    let stored = tree-here g.N.Naming.digest_of c.args.pool.now c.args.table.now.entries
-    c.requires.stands c.args.name.now c.in_ok-summary.summary c.in_ok-summary.ensures.tree in
+    let stored = tree-here c.in_ok-summary.summary (rw c.of-objects.ensures at c.in_ok-summary.ensures.tree) in
     ap (may_stand c.args.path.now) (sym stored.sum) ∙ sym c.may_stand.ensures ∙ is
 
 pub returns-then-not-may_stand-clause-edits : goal.returns-then-not-may_stand-clause-edits
@@ -39,8 +38,7 @@ returns-then-not-may_stand-clause-edits g c =
     let id = c.args.name.now in
     let at = goal.at.returns-then-not-may_stand-clause-edits g c in
     let tree = (put g at.In_ok-summary).tree in
-    let fs = placeable g.N.Naming.digest_of c.args.pool.now c.args.table.now.entries
-    c.requires.stands id tree in
+    let fs = placeable os id tree in
     let old = files_in os c.args.self.now in
     grafts-edits os id c.args.path.now old (Err fault.Limit) old (stored_files os id) tree
     (λ _. (
@@ -58,7 +56,7 @@ returns-then-is_root-clause-edits g c =
     let root = c.is_root.ensures.0 c.if-is_root.true in
     grafts-edits os id c.args.path.now (files_in os c.args.self.now) (Ok tt)
     (files_in os c.take_tree.new.self) (stored_files os id) tree
-    (root-edits g.N.Naming.digest_of c.args.pool.now c.args.table.now.entries c.requires.stands id
+    (root-edits g.N.Naming.digest_of os (of_table g.N.Naming.digest_of c.args.pool.now c.args.table.now.entries c.requires.stands) id
     tree
     (ap (λ (p : Path). may_stand p (files_summary (stored_files os id))) (sym root)
     ∙ stand g at.After-may_stand _ c.if-not-may_stand.false)
@@ -72,7 +70,7 @@ returns-then-is_root-clause-branch g c memory =
     let at = goal.at.returns-then-is_root-clause-branch g c in
     let stored = put g at.In_ok-summary in
     let root = c.is_root.ensures.0 c.if-is_root.true in
-    root-branch g.N.Naming.digest_of c.args.pool.now c.args.table.now.entries c.requires.stands id
+    root-branch g.N.Naming.digest_of os (of_table g.N.Naming.digest_of c.args.pool.now c.args.table.now.entries c.requires.stands) id
     stored.tree
     (ap (λ (p : Path). may_stand p (files_summary (stored_files os id))) (sym root)
     ∙ stand g at.After-may_stand _ c.if-not-may_stand.false)
@@ -87,16 +85,18 @@ returns-then-is_root-clause-open g c =
 
 pub put_tree-requires-clause-tree : goal.put_tree-requires-clause-tree
 put_tree-requires-clause-tree g c =
-    (put g (goal.at.put_tree-requires-clause-tree g c).In_ok-summary).tree
+    rw c.of-objects.ensures (put g (goal.at.put_tree-requires-clause-tree g c).In_ok-summary).tree
 
 pub put_tree-requires-clause-files : goal.put_tree-requires-clause-files
 put_tree-requires-clause-files g c =
-    ap (λ (s : Summary). s.files)
-    (put g (goal.at.put_tree-requires-clause-files g c).In_ok-summary).sum
+    rw c.of-objects.ensures
+    (ap (λ (s : Summary). s.files)
+    (put g (goal.at.put_tree-requires-clause-files g c).In_ok-summary).sum)
 
 pub put_tree-requires-clause-fits : goal.put_tree-requires-clause-fits
 put_tree-requires-clause-fits g c =
-    stand g (goal.at.put_tree-requires-clause-fits g c).After-may_stand _ c.if-not-may_stand.false
+    rw c.of-objects.ensures
+    (stand g (goal.at.put_tree-requires-clause-fits g c).After-may_stand _ c.if-not-may_stand.false)
 
 pub returns-clause-edits : goal.returns-clause-edits
 returns-clause-edits g c =
@@ -104,4 +104,4 @@ returns-clause-edits g c =
     let id = c.args.name.now in
     grafts-edits os id c.args.path.now (files_in os c.args.self.now) c.put_tree.result
     (files_in os c.put_tree.new.self) (stored_files os id)
-    (put g (goal.at.returns-clause-edits g c).In_ok-summary).tree c.put_tree.ensures.edits
+    (put g (goal.at.returns-clause-edits g c).In_ok-summary).tree (rw c.of-objects.ensures at c.put_tree.ensures.edits)

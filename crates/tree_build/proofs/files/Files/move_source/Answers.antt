@@ -2,7 +2,6 @@ use Rattle.std.proofs.Common.{◌≡◌, ◌≤◌, ℕ, ◌+◌, length, refl, 
 use Rattle.std.specs.Prelude.{Option}
 use Rattle.std.proofs.lemmas.Result.{on_ok_weaker}
 use Rattle.git_paths.specs.Paths.{IsPath, strip_prefix}
-use Rattle.tenant_tables.specs.Objects.{objects}
 use Rattle.file_maps.specs.Calls.{Edits}
 use Rattle.file_maps.specs.Edits.{files_at, moved, renamed, move_fault, without}
 use Rattle.file_maps.specs.FileMap.{Path, Listed, FileMap}
@@ -21,7 +20,7 @@ use Rattle.tree_build.proofs.files.Files.move_source.Given.{Over}
 
 pub take_source-requires : goal.take_source-requires
 take_source-requires g c =
-    ordered_held (objects c.args.pool.now c.args.table.now.entries) _ c.in_ok-open_to.ensures.branch.held
+    ordered_held c.args.objects.now _ c.in_ok-open_to.ensures.branch.held
 
 -- the directories on the way to the source stay open
 way : (b : Branch) {path from : Path} → path ≡ from → {was : ℕ} → was ≡ 0 → closed_from b.root from ≤ was
@@ -30,27 +29,27 @@ way b is closed closer = ap (closed_from b.root) is ∙ omega arith
 
 -- what is left without the source
 left : (g : Over) (c : After-take_source g)
-    → IsLeft (objects c.args.pool.now c.args.table.now.entries) c.components.result c.open_to.new.self c.take_source.new.self
+    → IsLeft c.args.objects.now c.components.result c.open_to.new.self c.take_source.new.self
 left g c =
-    let os = objects c.args.pool.now c.args.table.now.entries in
+    let os = c.args.objects.now in
     let opened = c.open_to.new.self in
     let shut = way opened c.components.ensures c.requires.shut (c.in_ok-open_to.ensures.«open» c.args.from.now) in
     subst (IsLeft os c.components.result opened) (sym c.take_source.ensures.rest)
     (rest_is os c.components.result opened c.in_ok-open_to.ensures.branch shut opened.files opened.reads)
 
 files_left : (g : Over) (c : After-take_source g)
-    → files_in (objects c.args.pool.now c.args.table.now.entries) c.take_source.new.self
-    ≡ without (files_in (objects c.args.pool.now c.args.table.now.entries) c.args.self.now) c.args.from.now
+    → files_in c.args.objects.now c.take_source.new.self
+    ≡ without (files_in c.args.objects.now c.args.self.now) c.args.from.now
 files_left g c =
-    let old = files_in (objects c.args.pool.now c.args.table.now.entries) c.args.self.now in
+    let old = files_in c.args.objects.now c.args.self.now in
     (left g c).files
     ∙ ap (λ (m : FileMap). without m c.components.result) c.in_ok-open_to.ensures.files
     ∙ ap (without old) c.components.ensures
 
 -- the source
 source : (g : Over) (c : In-Some g)
-    → IsThere (objects c.args.pool.now c.args.table.now.entries)
-    (files_at (files_in (objects c.args.pool.now c.args.table.now.entries) c.args.self.now) c.args.from.now)
+    → IsThere c.args.objects.now
+    (files_at (files_in c.args.objects.now c.args.self.now) c.args.from.now)
     (held c.in-Some.node)
 source g c =
     let shut = way c.open_to.new.self c.components.ensures c.requires.shut (c.in_ok-open_to.ensures.«open» c.args.from.now) in
@@ -64,13 +63,13 @@ put_here-requires-clause-directory g c = λ root.
 
 pub put_here-requires-clause-few : goal.put_here-requires-clause-few
 put_here-requires-clause-few g c =
-    let old = files_in (objects c.args.pool.now c.args.table.now.entries) c.args.self.now in
+    let old = files_in c.args.objects.now c.args.self.now in
     subst (λ (l : Listed). length l ≤ 1048576) (sym (source g (goal.at.put_here-requires-clause-few g c).In-Some).files)
     (few-moved old c.args.from.now c.requires.branch.files)
 
 pub put_here-requires-clause-may : goal.put_here-requires-clause-may
 put_here-requires-clause-may g c =
-    let os = objects c.args.pool.now c.args.table.now.entries in
+    let os = c.args.objects.now in
     let old = files_in os c.args.self.now in
     let at = goal.at.put_here-requires-clause-may g c in
     let rest = left g at.After-take_source in
@@ -96,14 +95,14 @@ put_here-requires-clause-may g c =
 
 -- the edit
 edits : (g : Over) (c : After-put_here g)
-    → (let os = objects c.args.pool.now c.args.table.now.entries in let old = files_in os c.args.self.now in
+    → (let os = c.args.objects.now in let old = files_in os c.args.self.now in
     files_in os c.take_source.new.self ≡ without old c.args.from.now
     → IsThere os (files_at old c.args.from.now) (held c.in-Some.node)
     → Edits c.put_here.result old (files_in os c.put_here.new.self)
     (move_fault (moved c.args.to.now (files_at old c.args.from.now)) (renamed old c.args.from.now c.args.to.now))
     (renamed old c.args.from.now c.args.to.now))
 edits g c rest there =
-    let os = objects c.args.pool.now c.args.table.now.entries in
+    let os = c.args.objects.now in
     let old = files_in os c.args.self.now in
     edits-renamed c.put_here.result (files_in os c.take_source.new.self) old (files_in os c.put_here.new.self)
     c.requires.branch.files c.args.from.now c.args.to.now
@@ -118,7 +117,7 @@ returns-clause-edits g c =
 
 pub returns-clause-branch : goal.returns-clause-branch
 returns-clause-branch g c =
-    let os = objects c.args.pool.now c.args.table.now.entries in
+    let os = c.args.objects.now in
     let old = files_in os c.args.self.now in
     let at = goal.at.returns-clause-branch g c in
     branch-renamed c.put_here.result old old (files_in os c.put_here.new.self)
@@ -148,7 +147,7 @@ returns-clause-open g c =
 -- the source is there
 missing : (g : Over) (c : In_default g) → ⊥
 missing g c =
-    let old = files_in (objects c.args.pool.now c.args.table.now.entries) c.args.self.now in
+    let old = files_in c.args.objects.now c.args.self.now in
     let shut = way c.open_to.new.self c.components.ensures c.requires.shut (c.in_ok-open_to.ensures.«open» c.args.from.now) in
     path-some (moved c.args.to.now (files_at old c.args.from.now)) c.requires.clean
     (ap (moved c.args.to.now)

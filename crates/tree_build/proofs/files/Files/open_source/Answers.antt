@@ -1,6 +1,5 @@
 use Rattle.std.proofs.Common.{◌≡◌, ap, ◌∙◌, subst}
 use Rattle.std.specs.Prelude.{None, Some, OnOk, Result, Ok, Err, IfErr}
-use Rattle.tenant_tables.specs.Objects.{objects}
 use Rattle.file_maps.specs.declared.fault.Fault.{Fault}
 use Rattle.file_maps.specs.declared.fault.Fault.TheVariants as fault
 use Rattle.file_maps.specs.Edits.{files_at, moved}
@@ -13,10 +12,10 @@ use Rattle.tree_build.proofs.files.Files.open_source.Given.{Over}
 
 -- the source has the same files
 same : (g : Over) (c : In_ok-open_to g)
-    → (let os = objects c.args.pool.now c.args.table.now.entries in
+    → (let os = c.args.objects.now in
     files_at (files_in os c.open_to.new.self) c.components-from.result ≡ files_at (files_in os c.args.self.now) c.args.from.now)
 same g c =
-    let os = objects c.args.pool.now c.args.table.now.entries in
+    let os = c.args.objects.now in
     ap (λ (m : FileMap). files_at m c.components-from.result) c.in_ok-open_to.ensures.files
     ∙ ap (files_at (files_in os c.args.self.now)) c.components-from.ensures
 
@@ -27,7 +26,7 @@ returns-clause-clean g c =
 
 pub returns-clause-refusal : goal.returns-clause-refusal
 returns-clause-refusal g c =
-    let os = objects c.args.pool.now c.args.table.now.entries in
+    let os = c.args.objects.now in
     whatever (λ e. path_fault (moved c.args.to.now (files_at (files_in os c.args.self.now) c.args.from.now)) ≡ Some e)
     c.check_source.result
     (subst (λ (l : Listed). IfErr c.check_source.result (λ e. path_fault (moved c.args.to.now l) ≡ Some e))

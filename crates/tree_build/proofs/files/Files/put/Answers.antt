@@ -47,28 +47,29 @@ returns-then-file_count-lt-FILES_LIMIT-clause-edits g c =
     refl c.components-path.result c.args.path.now c.components-path.ensures c.args.entry
     (λ e. no_path (c.is_root.ensures.1 e) c.if-is_root.false)
     (sym c.is_short.ensures ∙ c.if-not-is_short.false)
-    c.put_file.ensures.edits
+    (rw c.of-objects.ensures at c.put_file.ensures.edits)
 
 pub put_node-requires-clause-may : goal.put_node-requires-clause-may
 put_node-requires-clause-may g c =
     let os = objects c.args.pool.now c.args.table.now.entries in
-    may_put c.in_ok-open_to.ensures.branch c.components-path.result c.in_ok-open_to.ensures.shut (file_held c.args.entry)
+    rw c.of-objects.ensures
+    (may_put (rw c.of-objects.ensures at c.in_ok-open_to.ensures.branch) c.components-path.result c.in_ok-open_to.ensures.shut (file_held c.args.entry)
     ((c.requires.file, c.has_twenty_bytes.ensures), tt) (λ none. cc none) _
     (ap (λ (n : ℕ). n + 1) c.file_count-total.ensures)
-    (one_good os c.open_to.new.self c.in_ok-open_to.ensures.branch c.components-path.result c.args.entry
+    (one_good os c.open_to.new.self (rw c.of-objects.ensures at c.in_ok-open_to.ensures.branch) c.components-path.result c.args.entry
     (λ e. no_path (c.is_root.ensures.1 (sym c.components-path.ensures ∙ e)) c.if-is_root.false)
     c.has_components.ensures
     (ap is_within_limits c.components-path.ensures ∙ sym c.is_short.ensures ∙ c.if-not-is_short.false)
-    c.requires.file c.has_twenty_bytes.ensures)
+    c.requires.file c.has_twenty_bytes.ensures))
 
 pub returns-clause-edits : goal.returns-clause-edits
 returns-clause-edits g c =
     let os = objects c.args.pool.now c.args.table.now.entries in
     edits_put c.put_node.result (files_in os c.open_to.new.self) (files_in os c.args.self.now) (files_in os c.put_node.new.self)
-    c.in_ok-open_to.ensures.files c.components-path.result c.args.path.now c.components-path.ensures c.args.entry
+    (rw c.of-objects.ensures at c.in_ok-open_to.ensures.files) c.components-path.result c.args.path.now c.components-path.ensures c.args.entry
     (λ e. no_path (c.is_root.ensures.1 e) c.if-is_root.false)
     (sym c.is_short.ensures ∙ c.if-not-is_short.false)
-    c.put_node.ensures.puts.edits
+    (rw c.of-objects.ensures at c.put_node.ensures.puts.edits)
 
 pub returns-clause-open : goal.returns-clause-open
 returns-clause-open g c =
@@ -79,10 +80,10 @@ returns-clause-open g c =
 pub overflow_add-total : goal.overflow_add-total
 overflow_add-total g c =
     let os = objects c.args.pool.now c.args.table.now.entries in
-    let b = c.in_ok-open_to.ensures.branch in
+    let b = (rw c.of-objects.ensures at c.in_ok-open_to.ensures.branch) in
     let few = branch_few os c.open_to.new.self b in
     let all = c.file_count-total.ensures ∙ b.counted in
     omega arith
 
 pub returns-clause-branch : goal.returns-clause-branch
-returns-clause-branch g c = λ ne. c.put_node.ensures.puts.still ne c.in_ok-open_to.ensures.branch
+returns-clause-branch g c = λ ne. (rw c.of-objects.ensures at c.put_node.ensures.puts.still) ne (rw c.of-objects.ensures at c.in_ok-open_to.ensures.branch)

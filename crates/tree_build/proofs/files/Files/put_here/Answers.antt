@@ -1,5 +1,4 @@
 use Rattle.std.proofs.Common.{◌≡◌, ◌≤◌, ◌+◌, ◌-◌, length, sym, ap, ◌∙◌, subst, arith}
-use Rattle.tenant_tables.specs.Objects.{objects}
 use Rattle.file_maps.specs.StoredFiles.{stored_files}
 use Rattle.tree_build.specs.Shape.{held_files}
 use Rattle.tree_build.specs.Branch.{Branch, root_files, IsHeld}
@@ -13,21 +12,21 @@ use Rattle.tree_build.proofs.files.Files.put_here.Given.{Over}
 
 pub count-requires-clause-sound : goal.count-requires-clause-sound
 count-requires-clause-sound g c =
-    let os = objects c.args.pool.now c.args.table.now.entries in
+    let os = c.args.objects.now in
     subst (λ (x : Branch). IsHeld os x.root) (sym c.self.view_is) c.requires.may.branch.held
 
 pub count-requires-clause-few : goal.count-requires-clause-few
 count-requires-clause-few g c =
-    let os = objects c.args.pool.now c.args.table.now.entries in
+    let os = c.args.objects.now in
     subst (λ (x : Branch). length (root_files os x) ≤ 1048576) (sym c.self.view_is)
     (branch_few os (recounted os c.args.self.now) c.requires.may.branch)
 
 -- all files but those of the node go
 all : (g : Over) (c : After-count g)
     → c.args.total ≡ c.count.result
-    + length (held_files (stored_files (objects c.args.pool.now c.args.table.now.entries)) (held c.args.node))
+    + length (held_files (stored_files c.args.objects.now) (held c.args.node))
 all g c =
-    let os = objects c.args.pool.now c.args.table.now.entries in
+    let os = c.args.objects.now in
     let before = c.requires.may.counted in
     let same = ap (λ (x : Branch). length (root_files os x)) c.self.view_is in
     let goes = c.count.ensures in

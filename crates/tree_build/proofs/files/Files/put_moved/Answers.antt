@@ -1,5 +1,4 @@
 use Rattle.std.proofs.Common.{ℕ, ◌+◌, ◌≤◌, ap, ◌∙◌, subst, arith}
-use Rattle.tenant_tables.specs.Objects.{objects}
 use Rattle.file_maps.specs.StoredFiles.{stored_files}
 use Rattle.tree_build.specs.Shape.{held_files}
 use Rattle.tree_build.specs.Branch.{files_in}
@@ -11,7 +10,7 @@ use Rattle.tree_build.proofs.files.Files.put_moved.Goals as goal
 
 pub overflow_add-total : goal.overflow_add-total
 overflow_add-total g c =
-    let os = objects c.args.pool.now c.args.table.now.entries in
+    let os = c.args.objects.now in
     let b = c.in_ok-open_to.ensures.branch in
     let few = branch_few os c.open_to.new.self b in
     let all = c.file_count.ensures ∙ b.counted in
@@ -20,7 +19,7 @@ overflow_add-total g c =
 
 pub put_here-requires-clause-may : goal.put_here-requires-clause-may
 put_here-requires-clause-may g c =
-    let os = objects c.args.pool.now c.args.table.now.entries in
+    let os = c.args.objects.now in
     may_put c.in_ok-open_to.ensures.branch c.components-to.result c.in_ok-open_to.ensures.shut (held c.args.node) c.requires.held c.requires.full _
     (ap (λ (n : ℕ). n + c.args.files) c.file_count.ensures ∙ ap (λ (n : ℕ). c.open_to.new.self.files + n) c.requires.added)
     (put-good (held_files (stored_files os) (held c.args.node)) c.in_ok-open_to.ensures.files c.components-to.ensures c.requires.good)
@@ -33,5 +32,5 @@ returns-clause-branch g c = λ ne. c.put_here.ensures.still ne c.in_ok-open_to.e
 
 pub returns-clause-edits : goal.returns-clause-edits
 returns-clause-edits g c =
-    let os = objects c.args.pool.now c.args.table.now.entries in
+    let os = c.args.objects.now in
     put-edits c.put_here.result (files_in os c.put_here.new.self) (held_files (stored_files os) (held c.args.node)) c.in_ok-open_to.ensures.files c.components-to.ensures c.put_here.ensures.edits

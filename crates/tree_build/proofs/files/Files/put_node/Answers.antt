@@ -1,5 +1,4 @@
 use Rattle.std.proofs.Common.{◌≡◌, ◌≤◌, ◌-◌, ◌++◌, length, sym, ap, ◌∙◌, subst, arith, true, Ok, Err}
-use Rattle.tenant_tables.specs.Objects.{objects}
 use Rattle.file_maps.specs.declared.fault.Fault.TheVariants as fault
 use Rattle.file_maps.specs.StoredFiles.{stored_files}
 use Rattle.tree_build.specs.declared.dir.Node.{Node}
@@ -24,20 +23,20 @@ root g c = sym (ap (λ (x : Branch). x.root) c.self.view_is) ∙ ap held c.in-Op
 
 -- how many files go
 gone : (g : Over) (c : After-taken g)
-    → c.taken.result ≡ taken (stored_files (objects c.args.pool.now c.args.table.now.entries)) true c.args.path.now c.in-Opened.dir.entries
+    → c.taken.result ≡ taken (stored_files c.args.objects.now) true c.args.path.now c.in-Opened.dir.entries
 gone g c =
-    let os = objects c.args.pool.now c.args.table.now.entries in
+    let os = c.args.objects.now in
     c.taken.ensures ∙ ap (λ (d : Directory). taken (stored_files os) true c.args.path.now d.entries) c.dir.view_is
 
 pub place-requires : goal.place-requires
 place-requires g c =
-    let os = objects c.args.pool.now c.args.table.now.entries in
+    let os = c.args.objects.now in
     let at = goal.at.place-requires g c in
     ordered os c.in-Opened.dir.entries (subst (λ (x : Held). IsHeld os x) (root g at.In-Opened) c.requires.may.branch.held).1
 
 pub taken-requires-clause-few : goal.taken-requires-clause-few
 taken-requires-clause-few g c =
-    let os = objects c.args.pool.now c.args.table.now.entries in
+    let os = c.args.objects.now in
     let at = goal.at.taken-requires-clause-few g c in
     subst (λ (d : Directory). length (shape_files (stored_files os) d.entries) ≤ 1048576) (sym c.dir.view_is)
     (subst (λ (x : Held). length (held_files (stored_files os) x) ≤ 1048576) (root g at.In-Opened)
@@ -53,7 +52,7 @@ overflow_sub-files g c =
 
 pub returns-then-files-gt-FILES_LIMIT-clause-puts : goal.returns-then-files-gt-FILES_LIMIT-clause-puts
 returns-then-files-gt-FILES_LIMIT-clause-puts g c =
-    let os = objects c.args.pool.now c.args.table.now.entries in
+    let os = c.args.objects.now in
     let at = goal.at.returns-then-files-gt-FILES_LIMIT-clause-puts g c in
     let branch : Node → Branch = λ n. record { root = held n; files = c.self.inside.files; reads = c.self.inside.reads } in
     subst (PutsNode os (Err fault.Limit) c.args.path.now (held c.args.node) c.args.self.now)
@@ -63,7 +62,7 @@ returns-then-files-gt-FILES_LIMIT-clause-puts g c =
 
 pub returns-in_ok-place-in-Opened-clause-puts : goal.returns-in_ok-place-in-Opened-clause-puts
 returns-in_ok-place-in-Opened-clause-puts g c =
-    let os = objects c.args.pool.now c.args.table.now.entries in
+    let os = c.args.objects.now in
     let at = goal.at.returns-in_ok-place-in-Opened-clause-puts g c in
     let tree = c.in_ok-place-in-Opened.ensures.tree c.requires.some in
     let entries = c.in_ok-place-in-Opened.ensures.entries in

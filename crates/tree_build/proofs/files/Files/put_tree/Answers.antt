@@ -1,7 +1,6 @@
 use Rattle.std.proofs.Common.{◌≡◌, ℕ, ◌+◌, length, sym, ap, ◌∙◌, arith}
 use Rattle.std.specs.FinMap as finmap
 use Rattle.git_paths.specs.Paths.{strip_prefix}
-use Rattle.tenant_tables.specs.Objects.{objects}
 use Rattle.file_maps.specs.FileMap.{Path, Listed, FileMap, is_apart}
 use Rattle.file_maps.specs.Storable.{files_summary}
 use Rattle.file_maps.specs.StoredFiles.{stored_files}
@@ -18,7 +17,7 @@ use Rattle.tree_build.proofs.files.Files.put_tree.Goals as goal
 
 pub returns-then-files-eq0-clause-edits : goal.returns-then-files-eq0-clause-edits
 returns-then-files-eq0-clause-edits g c =
-    let os = objects c.args.pool.now c.args.table.now.entries in
+    let os = c.args.objects.now in
     none_put os c.take_out.new.self c.take_out.ensures.branch (files_in os c.args.self.now)
     c.args.path.now (stored_files os c.args.name.now) (sym c.requires.files ∙ c.if-files-eq0.true)
     (c.take_out.ensures.files
@@ -29,7 +28,7 @@ returns-then-files-eq0-clause-edits g c =
 
 pub put_node-requires-clause-may : goal.put_node-requires-clause-may
 put_node-requires-clause-may g c =
-    let os = objects c.args.pool.now c.args.table.now.entries in
+    let os = c.args.objects.now in
     may_put c.in_ok-open_to.ensures.branch c.components-path.result c.in_ok-open_to.ensures.shut (held (Unopened c.args.name.now)) (c.requires.tree, tt)
     (λ none. let n : length (stored_files os c.args.name.now) ≡ 0 = ap (λ (l : Listed). length l) none in
     let all = c.requires.files in
@@ -37,19 +36,17 @@ put_node-requires-clause-may g c =
     (ap (λ (n : ℕ). n + c.args.files) c.file_count.ensures ∙ ap (λ (n : ℕ). c.open_to.new.self.files + n) c.requires.files)
     (put_good os c.open_to.new.self c.in_ok-open_to.ensures.branch c.components-path.result
     (held (Unopened c.args.name.now)) c.has_components.ensures
-    (placeable g.N.Naming.digest_of c.args.pool.now c.args.table.now.entries c.requires.stands
-    c.args.name.now c.requires.tree)
+    (placeable os c.args.name.now c.requires.tree)
     (ap (λ (p : Path). may_stand p (files_summary (stored_files os c.args.name.now)))
     c.components-path.ensures ∙ c.requires.fits))
 
 pub returns-clause-edits : goal.returns-clause-edits
 returns-clause-edits g c =
-    let os = objects c.args.pool.now c.args.table.now.entries in
+    let os = c.args.objects.now in
     edits_fit c.put_node.result (files_in os c.open_to.new.self) (files_in os c.args.self.now)
     (files_in os c.put_node.new.self) c.in_ok-open_to.ensures.files c.components-path.result
     c.args.path.now c.components-path.ensures (stored_files os c.args.name.now)
-    (placeable g.N.Naming.digest_of c.args.pool.now c.args.table.now.entries c.requires.stands
-    c.args.name.now c.requires.tree).sound
+    (placeable os c.args.name.now c.requires.tree).sound
     c.requires.fits c.put_node.ensures.puts.edits
 
 pub returns-then-files-eq0-clause-open : goal.returns-then-files-eq0-clause-open
@@ -67,7 +64,7 @@ returns-clause-open g c =
 
 pub overflow_add-total : goal.overflow_add-total
 overflow_add-total g c =
-    let os = objects c.args.pool.now c.args.table.now.entries in
+    let os = c.args.objects.now in
     let b = c.in_ok-open_to.ensures.branch in
     let few = branch_few os c.open_to.new.self b in
     let all = c.file_count.ensures ∙ b.counted in

@@ -20,13 +20,14 @@ returns-in_err-open_source-clause-edits g c =
     (failed.1 ∙ ap (λ (e : Fault). Err e) failed.2)
     old (files_in os c.open_source.new.self) (moved c.args.to.now (files_at old c.args.from.now))
     (renamed old c.args.from.now c.args.to.now)
-    c.in_err-open_source.ensures.refusal c.in_err-open_source.ensures.files
+    (rw c.of-objects.ensures at c.in_err-open_source.ensures.refusal) (rw c.of-objects.ensures at c.in_err-open_source.ensures.files)
 
 pub move_source-requires-clause-clean : goal.move_source-requires-clause-clean
 move_source-requires-clause-clean g c =
     let os = objects c.args.pool.now c.args.table.now.entries in
-    subst (λ (m : FileMap). path_fault (moved c.args.to.now (files_at m c.args.from.now)) ≡ None)
-    (sym (c.in_ok-open_source.ensures.files (λ e. cc e))) c.in_ok-open_source.ensures.clean
+    rw c.of-objects.ensures
+    (subst (λ (m : FileMap). path_fault (moved c.args.to.now (files_at m c.args.from.now)) ≡ None)
+    (sym ((rw c.of-objects.ensures at c.in_ok-open_source.ensures.files) (λ e. cc e))) (rw c.of-objects.ensures at c.in_ok-open_source.ensures.clean))
 
 pub returns-clause-edits : goal.returns-clause-edits
 returns-clause-edits g c =
@@ -34,4 +35,4 @@ returns-clause-edits g c =
     subst (λ (m : FileMap). Edits c.move_source.result m (files_in os c.move_source.new.self)
     (move_fault (moved c.args.to.now (files_at m c.args.from.now)) (renamed m c.args.from.now c.args.to.now))
     (renamed m c.args.from.now c.args.to.now))
-    (c.in_ok-open_source.ensures.files (λ e. cc e)) c.move_source.ensures.edits
+    ((rw c.of-objects.ensures at c.in_ok-open_source.ensures.files) (λ e. cc e)) (rw c.of-objects.ensures at c.move_source.ensures.edits)

@@ -1,5 +1,4 @@
 use Rattle.std.proofs.Common.{◌≡◌, ◌≤◌, ◌-◌, ℕ, length, sym, ap, ◌∙◌, subst, arith}
-use Rattle.tenant_tables.specs.Objects.{objects}
 use Rattle.file_maps.specs.StoredFiles.{stored_files}
 use Rattle.tree_build.specs.declared.dir.Node.{Node}
 use Rattle.tree_build.specs.declared.dir.Node.TheVariants.{Opened}
@@ -26,9 +25,9 @@ shut g c = subst (λ (x : Held). closed_from x c.args.path.now ≡ 0) (root g c)
 
 -- how many files go
 gone : (g : Over) (c : After-taken-gone g)
-    → c.taken-gone.result ≡ taken (stored_files (objects c.args.pool.now c.args.table.now.entries)) c.args.clear c.args.path.now c.in-Opened.dir.entries
+    → c.taken-gone.result ≡ taken (stored_files c.args.objects.now) c.args.clear c.args.path.now c.in-Opened.dir.entries
 gone g c =
-    let os = objects c.args.pool.now c.args.table.now.entries in
+    let os = c.args.objects.now in
     c.taken-gone.ensures ∙ ap (λ (d : Directory). taken (stored_files os) c.args.clear c.args.path.now d.entries) c.dir.view_is
 
 -- the root without them
@@ -41,13 +40,13 @@ left g c =
 
 pub take_at-requires : goal.take_at-requires
 take_at-requires g c =
-    let os = objects c.args.pool.now c.args.table.now.entries in
+    let os = c.args.objects.now in
     let at = goal.at.take_at-requires g c in
     ordered os c.in-Opened.dir.entries (subst (λ (x : Held). IsHeld os x) (root g at.In-Opened) c.requires.branch.held).1
 
 pub taken-gone-requires-clause-few : goal.taken-gone-requires-clause-few
 taken-gone-requires-clause-few g c =
-    let os = objects c.args.pool.now c.args.table.now.entries in
+    let os = c.args.objects.now in
     let at = goal.at.taken-gone-requires-clause-few g c in
     subst (λ (d : Directory). length (shape_files (stored_files os) d.entries) ≤ 1048576) (sym c.dir.view_is)
     (subst (λ (x : Held). length (held_files (stored_files os) x) ≤ 1048576) (root g at.In-Opened)
@@ -55,7 +54,7 @@ taken-gone-requires-clause-few g c =
 
 pub overflow_sub-self : goal.overflow_sub-self
 overflow_sub-self g c =
-    let os = objects c.args.pool.now c.args.table.now.entries in
+    let os = c.args.objects.now in
     let at = goal.at.overflow_sub-self g c in
     let goes = gone g at.After-taken-gone in
     let same = ap (λ (x : Branch). x.files) c.self.view_is in
@@ -65,7 +64,7 @@ overflow_sub-self g c =
 
 pub returns-else-gone-eq0-clause-branch : goal.returns-else-gone-eq0-clause-branch
 returns-else-gone-eq0-clause-branch g c =
-    let os = objects c.args.pool.now c.args.table.now.entries in
+    let os = c.args.objects.now in
     let at = goal.at.returns-else-gone-eq0-clause-branch g c in
     let goes = gone g at.After-taken-gone in
     let same = ap (λ (x : Branch). x.files) c.self.view_is in
@@ -77,7 +76,7 @@ returns-else-gone-eq0-clause-branch g c =
 
 pub returns-else-gone-eq0-clause-files : goal.returns-else-gone-eq0-clause-files
 returns-else-gone-eq0-clause-files g c =
-    let os = objects c.args.pool.now c.args.table.now.entries in
+    let os = c.args.objects.now in
     let at = goal.at.returns-else-gone-eq0-clause-files g c in
     ap (λ (h : Held). files_in os (record { root = h; files = c.self.inside.files - c.taken-gone.result; reads = c.self.inside.reads }))
     (left g at.After-take_at)
@@ -86,7 +85,7 @@ returns-else-gone-eq0-clause-files g c =
 
 pub returns-else-gone-eq0-clause-open : goal.returns-else-gone-eq0-clause-open
 returns-else-gone-eq0-clause-open g c = λ q.
-    let os = objects c.args.pool.now c.args.table.now.entries in
+    let os = c.args.objects.now in
     let is = root g (goal.at.returns-else-gone-eq0-clause-open g c).In-Opened in
     let sound = subst (λ (x : Held). IsHeld os x) is c.requires.branch.held in
     let old = ap (λ (x : Held). closed_from x q) is in
@@ -96,7 +95,7 @@ returns-else-gone-eq0-clause-open g c = λ q.
 
 pub returns-then-gone-eq0-clause-files : goal.returns-then-gone-eq0-clause-files
 returns-then-gone-eq0-clause-files g c =
-    let os = objects c.args.pool.now c.args.table.now.entries in
+    let os = c.args.objects.now in
     let at = goal.at.returns-then-gone-eq0-clause-files g c in
     ap (λ (n : Node). files_in os (record { root = held n; files = c.self.inside.files; reads = c.self.inside.reads })) (sym c.in-Opened.is)
     ∙ ap (files_in os) c.self.view_is
