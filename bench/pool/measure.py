@@ -12,7 +12,7 @@ import subprocess
 import sys
 import tempfile
 import time
-from typing import List, Tuple
+from typing import List, NamedTuple, Tuple
 
 here = os.path.dirname(os.path.abspath(__file__))
 sys.path.insert(0, os.path.join(here, ".."))
@@ -99,44 +99,52 @@ def large_blobs(stream: str) -> None:
             file.write(b"blob\ndata 1000000\n" + draw.randbytes(1_000_000) + b"\n")
 
 
-def once(words: List[str], given: str = os.devnull) -> Tuple[float, float, bytes]:
-    """Seconds, the most memory in MB, and what is printed. GNU time asks for the memory of the process alone."""
-    with tempfile.NamedTemporaryFile() as peak, open(given, "rb") as stdin:
+class Taken(NamedTuple):
+    """Seconds by the clock and of the processor, the most memory in MB, and what is printed."""
+
+    clock: float
+    processor: float
+    memory: float
+    printed: bytes
+
+
+def once(words: List[str], given: str = os.devnull) -> Taken:
+    """One run. GNU time asks for the memory of the process alone."""
+    with tempfile.NamedTemporaryFile() as told, open(given, "rb") as stdin:
         start = time.monotonic()
-        done = subprocess.run(["/usr/bin/time", "-f", "%M", "-o", peak.name, *words], stdin=stdin, stdout=subprocess.PIPE, check=True)
+        timed = ["/usr/bin/time", "-f", "%U %S %M", "-o", told.name, *words]
+        done = subprocess.run(timed, stdin=stdin, stdout=subprocess.PIPE, check=True)
         took = time.monotonic() - start
-        return took, int(peak.read()) * 1024 / 1e6, done.stdout
+        user, system, most = told.read().split()
+        return Taken(took, float(user) + float(system), int(most) * 1024 / 1e6, done.stdout)
 
 
-def best(words: List[str]) -> Tuple[float, float, bytes]:
-    """The least time, the most memory, and what the last round printed."""
-    all_of_them = [once(words) for _ in range(rounds)]
-    return min(it[0] for it in all_of_them), max(it[1] for it in all_of_them), all_of_them[-1][2]
-
-
-def digest_of(path: str) -> Tuple[bytes, float]:
-    """The digest of a file, and the seconds of `sha1sum` over it."""
-    took, _, printed = best(["sha1sum", path])
-    return printed.split()[0], took
+def best(words: List[str]) -> Taken:
+    """The least times, the most memory, and what the last round printed."""
+    found = [once(words) for _ in range(rounds)]
+    clock, processor = min(it.clock for it in found), min(it.processor for it in found)
+    return Taken(clock, processor, max(it.memory for it in found), found[-1].printed)
 
 
 def measure(what: str, path: str) -> None:
     pool = ["--pool", path]
     size = os.path.getsize(path)
-    digest, summed = digest_of(path)
-    load, held, said = best([program, "check", *pool])
-    both, most, _ = best([program, "import", "none", *pool])
-    assert digest_of(path)[0] == digest, f"{what}: a save left other bytes"
+    summed = best(["sha1sum", path])
+    load = best([program, "check", *pool])
+    both = best([program, "import", "none", *pool])
+    assert best(["sha1sum", path]).printed == summed.printed, f"{what}: a save left other bytes"
+    save = both.clock - load.clock, both.processor - load.processor
     print(
-        f"{what}: {said.decode().strip()}; {size / 1e6:.1f} MB; load {load:.3f} s, {size / load / 1e6:.0f} MB/s, at most {held:.0f} MB;"
-        f" and a save {both - load:.3f} s more, at most {most:.0f} MB; sha1sum {summed:.3f} s, {size / summed / 1e6:.0f} MB/s",
+        f"{what}: {load.printed.decode().strip()}; {size / 1e6:.1f} MB; load {load.clock:.3f} s, {size / load.clock / 1e6:.0f} MB/s,"
+        f" at most {load.memory:.0f} MB; and a save {save[0]:.3f} s more, at most {both.memory:.0f} MB; sha1sum {summed.clock:.3f} s;"
+        f" of the processor: load {load.processor:.2f} s, save {save[1]:.2f} s, sha1sum {summed.processor:.2f} s",
         flush=True,
     )
 
 
 def imported(stream: str, path: str) -> None:
-    took, most, _ = once([program, "import", ONE.decode(), "--pool", path], stream)
-    print(f"import and save: {os.path.getsize(stream) / 1e6:.1f} MB, {took:.3f} s, at most {most:.0f} MB", flush=True)
+    told = once([program, "import", ONE.decode(), "--pool", path], stream)
+    print(f"import and save: {os.path.getsize(stream) / 1e6:.1f} MB, {told.clock:.3f} s, at most {told.memory:.0f} MB", flush=True)
 
 
 def main() -> None:
