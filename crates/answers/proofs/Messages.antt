@@ -1,5 +1,5 @@
 -- The message that a commit's contents hold, found line after line.
-use Rattle.std.proofs.Common.{◌≡◌, ◌≢◌, ℕ, ◌+◌, ◌<◌, ◌≤◌, ◌==◌, Bool, true, false, not, List, [], ◌∷◌, length, drop, get_or, refl, sym, ap, ◌∙◌, Option, None, Some, All, position, arith}
+use Rattle.std.proofs.Common.{◌≡◌, ◌≢◌, ℕ, ◌+◌, ◌<◌, ◌≤◌, ◌==◌, Bool, true, false, not, cond, List, [], ◌∷◌, length, drop, get_or, refl, sym, ap, ◌∙◌, Option, None, Some, All, position, arith}
 use Rattle.std.specs.Prelude.{sum_by, take_while}
 use Rattle.std.specs.List.{position_or_len, before_first, after_first, slice_split}
 use Rattle.std.specs.Str.{bytes_eq}
@@ -68,23 +68,23 @@ none_is (b ∷ bs) e = absurd (omega arith)
 line_size : (xs : List ℕ) → line_end xs < length xs → length (before_first ends_line xs) ≡ line_end xs
 line_size xs within = omega (arith, length-take (line_end xs) xs)
 
-header_goes_on : (xs : List ℕ) → line_end xs < length xs → line_end xs ≢ 0
-    → header_lines xs ≡ before_first ends_line xs ∷ header_lines (after_first ends_line xs)
+header_step : (xs : List ℕ) → line_end xs < length xs → header_lines xs
+    ≡ cond (is_some_text (before_first ends_line xs)) (before_first ends_line xs ∷ header_lines (after_first ends_line xs)) []
 unfolding header_lines
-header_goes_on xs within some =
+header_step xs within =
     ap (take_while is_some_text) (slice_split_first ends_line xs 0 within)
     ∙ take_while-cons is_some_text (before_first ends_line xs)
     (slice_split ends_line (after_first ends_line xs))
-    ∙ cond-true (is_some_text (before_first ends_line xs)) _ _
+
+header_goes_on : (xs : List ℕ) → line_end xs < length xs → line_end xs ≢ 0
+    → header_lines xs ≡ before_first ends_line xs ∷ header_lines (after_first ends_line xs)
+header_goes_on xs within some =
+    header_step xs within ∙ cond-true (is_some_text (before_first ends_line xs)) _ _
     (some_is (before_first ends_line xs) (line_end xs) (line_size xs within) some)
 
 header_ends : (xs : List ℕ) → line_end xs < length xs → line_end xs ≡ 0 → header_lines xs ≡ []
-unfolding header_lines
 header_ends xs within none =
-    ap (take_while is_some_text) (slice_split_first ends_line xs 0 within)
-    ∙ take_while-cons is_some_text (before_first ends_line xs)
-    (slice_split ends_line (after_first ends_line xs))
-    ∙ cond-false (is_some_text (before_first ends_line xs)) _ _
+    header_step xs within ∙ cond-false (is_some_text (before_first ends_line xs)) _ _
     (none_is (before_first ends_line xs) (line_size xs within ∙ none))
 
 -- a text with no line end is the one line, or none

@@ -1,5 +1,5 @@
 -- Queries, and texts that are none.
-use Rattle.std.specs.Prelude.{◌≡◌, [], Ok, Err, refl, codes}
+use Rattle.std.specs.Prelude.{◌≡◌, [], ◌∷◌, Ok, Err, map, refl, codes}
 use Rattle.revisions.specs.ExpressionReading.{count_of, braced, after_caret, suffix_of, with_byte, expression_of}
 use Rattle.answers.specs.declared.query.Query.TheVariants.{Object, Repository}
 use Rattle.answers.specs.declared.query.ObjectQuery.TheVariants.{RevParse}
@@ -15,22 +15,12 @@ alone : query_of (codes "refs") ≡ Ok (Repository Refs)
 unfolding query_of word_of
 alone = refl
 
-nothing : query_of [] ≡ Err fault.UnknownQuery
+no_word : map query_of ([] ∷ codes "refs\n" ∷ []) ≡ Err fault.UnknownQuery ∷ Err fault.UnknownQuery ∷ []
 unfolding query_of word_of
-nothing = refl
+no_word = refl
 
-a_line_end : query_of (codes "refs\n") ≡ Err fault.UnknownQuery
-unfolding query_of word_of
-a_line_end = refl
-
-a_space_after : query_of (codes "refs ") ≡ Err fault.MalformedQuery
-unfolding query_of word_of
-a_space_after = refl
-
-no_space : query_of (codes "rev-parse") ≡ Err fault.MalformedQuery
-unfolding query_of word_of
-no_space = refl
-
-no_expression : query_of (codes "rev-parse ") ≡ Err fault.MalformedQuery
+-- a space after a word that stands alone; no space; no expression
+malformed : map query_of (codes "refs " ∷ codes "rev-parse" ∷ codes "rev-parse " ∷ [])
+    ≡ Err fault.MalformedQuery ∷ Err fault.MalformedQuery ∷ Err fault.MalformedQuery ∷ []
 unfolding query_of word_of expression_of suffix_of after_caret braced count_of with_byte
-no_expression = refl
+malformed = refl

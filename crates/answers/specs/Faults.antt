@@ -1,6 +1,6 @@
 -- Faults: the number of each refusal, and how one is passed on.
-use Rattle.std.specs.Prelude.{◌≡◌, ◌≢◌, ℕ, List, ◌++◌, Option, None, Some, Result, Ok, Err}
-use Rattle.git_model.specs.Results.{GivesOr}
+use Rattle.std.specs.Prelude.{◌≡◌, ◌≢◌, ℕ, List, ◌++◌, Result, Ok, Err}
+use Rattle.git_model.specs.Results.{GivesOr, refused_as}
 use Rattle.revisions.specs.declared.fault.Fault.{Fault as RevisionFault}
 use Rattle.revisions.specs.declared.fault.Fault.TheVariants as revision_fault
 use Rattle.export_text.specs.declared.fault.Fault.{Fault as ExportFault}
@@ -32,8 +32,7 @@ exporting_fault export_fault.Limit = fault.Limit
 exporting_fault export_fault.Memory = fault.Memory
 
 abbrev pub resolved_or : {A : Type 0} → Result A RevisionFault → Result A Fault
-resolved_or (Ok value) = Ok value
-resolved_or (Err e) = Err (resolving_fault e)
+resolved_or found = refused_as resolving_fault found
 
 -- What a call answers is what is defined; out of memory may stand in its place.
 abbrev pub Gives : {A : Type 0} → Result A Fault → Result A Fault → Type 0

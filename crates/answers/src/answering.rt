@@ -1,16 +1,13 @@
 //! The answer to a query.
 
 ghost use Rattle.std.specs.Prelude.{◌≡◌, Ok, length, take, OnErr};
-ghost use Rattle.git_model.specs.GoodRepository.{AreObjects};
-ghost use Rattle.git_model.specs.Repository.{object_named};
-ghost use Rattle.tenant_tables.specs.Objects.{objects};
-ghost use Rattle.tenant_tables.specs.IsBackedBy.{IsBackedBy};
-ghost use Rattle.tenant_tables.specs.View.{in_sight};
+ghost use Rattle.git_model.specs.{GoodRepository.{AreObjects}, Repository.{object_named}};
+ghost use Rattle.git_model.specs.Results.{and_then};
+ghost use Rattle.tenant_tables.specs.{Objects.{objects}, IsBackedBy.{IsBackedBy}, View.{in_sight}};
 ghost use Rattle.tenant_tables.specs.declared.sight.Sight.TheVariants.{Committed};
 ghost use Rattle.revisions.specs.FirstParents.{IsFirstParentChain};
-ghost use Rattle.answers.specs.Answers.{answer_to, export_asked, log_asked, object_asked, told, told_of_object, told_of_repository};
-ghost use Rattle.git_model.specs.Results.{and_then};
-ghost use Rattle.answers.specs.Faults.{Prints};
+ghost use Rattle.answers.specs.Answers.{answer_to, export_asked, log_asked, object_asked, told};
+ghost use Rattle.answers.specs.{Answers.{told_of_object, told_of_repository}, Faults.{Prints}};
 ghost use Rattle.answers.specs.Printed.{line, log_lines, object_text, shortest_prefix};
 ghost use Rattle.answers.specs.declared.query.ObjectQuery.TheVariants.{Ls};
 

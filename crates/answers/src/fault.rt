@@ -1,11 +1,10 @@
 //! Why a query is refused.
 
 ghost use Rattle.std.specs.Prelude.{◌≡◌};
-ghost use Rattle.answers.specs.Faults.{code_of, exporting_fault, resolving_fault};
-ghost use Rattle.answers.specs.declared.fault.Fault.TheVariants.{Memory as OutOfMemory};
+ghost use Rattle.answers.specs.Faults.{code_of};
+ghost use Rattle.answers.specs.declared.fault.Fault.TheVariants as fault;
 
 use git_objects::Memory;
-use std::alloc::{AllocError, AllocFailed};
 use thiserror::Error;
 
 /// Why a query has no answer.
@@ -13,28 +12,40 @@ use thiserror::Error;
 pub enum Fault {
     /// What it names cannot be peeled to the kind that is asked for, 15.
     #[error("wrong kind")]
-    WrongKind,
+    WrongKind = 15,
     /// It names nothing that the repository has, 16.
     #[error("unknown revision")]
-    UnknownRevision,
+    UnknownRevision = 16,
     /// Several object names begin with the digits, 17.
     #[error("ambiguous abbreviation")]
-    Ambiguous,
+    Ambiguous = 17,
     /// There are too many refs to be exported, 25.
     #[error("limit")]
-    Limit,
+    Limit = 25,
     /// No query begins with this word, 40.
     #[error("unknown query")]
-    UnknownQuery,
+    UnknownQuery = 40,
     /// The query is too long, or what stands after its word is not what the word asks for, 41.
     #[error("malformed query")]
-    MalformedQuery,
+    MalformedQuery = 41,
     /// An allocation failed, 90.
     #[error("out of memory")]
-    Memory,
+    Memory = 90,
+}
+
+impl Fault {
+    /// The number of the fault: 15 wrong kind, 16 unknown revision, 17 ambiguous, 25 limit, 40
+    /// unknown query, 41 malformed query, 90 out of memory.
+    pub fn code(self) -> u16
+        ensures { result ≡ code_of self }
+    {
+        self as u16
+    }
 }
 
 impl From<revisions::Fault> for Fault {
+    ghost use Rattle.answers.specs.Faults.{resolving_fault};
+
     ghost from_gives = { λ refusal e. e ≡ resolving_fault refusal };
 
     fn from(refusal: revisions::Fault) -> Fault {
@@ -49,6 +60,8 @@ impl From<revisions::Fault> for Fault {
 }
 
 impl From<export_text::Fault> for Fault {
+    ghost use Rattle.answers.specs.Faults.{exporting_fault};
+
     ghost from_gives = { λ refusal e. e ≡ exporting_fault refusal };
 
     fn from(refusal: export_text::Fault) -> Fault {
@@ -60,43 +73,9 @@ impl From<export_text::Fault> for Fault {
 }
 
 impl From<Memory> for Fault {
-    ghost from_gives = { λ _ e. e ≡ OutOfMemory };
+    ghost from_gives = { λ _ refused. refused ≡ fault.Memory };
 
-    fn from(_e: Memory) -> Fault {
+    fn from(_refused: Memory) -> Fault {
         Fault::Memory
-    }
-}
-
-impl From<AllocError> for Fault {
-    ghost from_gives = { λ _ e. e ≡ OutOfMemory };
-
-    fn from(_e: AllocError) -> Fault {
-        Fault::Memory
-    }
-}
-
-impl<T: Drop> From<AllocFailed<T>> for Fault {
-    ghost from_gives = { λ _ e. e ≡ OutOfMemory };
-
-    fn from(_e: AllocFailed<T>) -> Fault {
-        Fault::Memory
-    }
-}
-
-impl Fault {
-    /// The number of the fault: 15 wrong kind, 16 unknown revision, 17 ambiguous, 25 limit, 40
-    /// unknown query, 41 malformed query, 90 out of memory.
-    pub fn code(self) -> u16
-        ensures { result ≡ code_of self }
-    {
-        match self {
-            Fault::WrongKind => 15,
-            Fault::UnknownRevision => 16,
-            Fault::Ambiguous => 17,
-            Fault::Limit => 25,
-            Fault::UnknownQuery => 40,
-            Fault::MalformedQuery => 41,
-            Fault::Memory => 90,
-        }
     }
 }

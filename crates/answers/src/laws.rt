@@ -1,8 +1,7 @@
 //! Laws of what is printed: functions over the definitions alone, which run nothing.
 
 ghost use Rattle.std.specs.Prelude.{◌≡◌, ◌↔◌, ℕ, List, All};
-ghost use Rattle.git_model.specs.ObjectName.{IsObjectName};
-ghost use Rattle.git_model.specs.Repository.{Object};
+ghost use Rattle.git_model.specs.{ObjectName.{IsObjectName}, Repository.{Object}};
 ghost use Rattle.answers.specs.Printed.{shortest_prefix, IsShortestPrefix};
 
 /// What `abbrev` prints of a name is the shortest prefix of at least 4 digits that begins no other

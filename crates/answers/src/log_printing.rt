@@ -1,11 +1,11 @@
 //! How logs are printed: git-log(1), --format='%H %s'.
 
-ghost use Rattle.std.specs.Prelude.{◌≡◌, ◌+◌, ◌<◌, ◌++◌, ◌==◌, length, take, drop, codes, All, true, position, Some, None, IfSome, MatchOption, OnOk};
+ghost use Rattle.std.specs.Prelude.{◌≡◌, ◌+◌, ◌<◌, ◌++◌, ◌==◌, length, take, drop, codes, All};
+ghost use Rattle.std.specs.Prelude.{true, position, Some, None, IfSome, MatchOption, OnOk};
 ghost use Rattle.std.specs.List.{before_first};
 ghost use Rattle.hex.specs.Hex.{encode_lower};
-ghost use Rattle.git_model.specs.CommitReading.{commit_read, first_line};
+ghost use Rattle.git_model.specs.{CommitReading.{commit_read, first_line}, Peeling.{is_of}};
 ghost use Rattle.git_model.specs.HeaderReading.{message_of};
-ghost use Rattle.git_model.specs.Peeling.{is_of};
 ghost use Rattle.answers.specs.Printed.{line, log_line, log_lines};
 
 use git_objects::{Kind, Memory, Name, Naming, append_parts};

@@ -3,10 +3,8 @@
 ghost use Rattle.std.specs.Prelude.{◌≡◌, ◌++◌, length, take, codes, decimal, OnOk, List};
 ghost use Rattle.std.specs.List.{flat_map};
 ghost use Rattle.hex.specs.Hex.{encode_lower};
-ghost use Rattle.git_model.specs.Content.{content_from};
-ghost use Rattle.git_model.specs.GoodRepository.{AreObjects, IsValid};
-ghost use Rattle.git_model.specs.Repository.{Object};
-ghost use Rattle.git_model.specs.StoredPath.{entries_in};
+ghost use Rattle.git_model.specs.{Content.{content_from}, GoodRepository.{AreObjects, IsValid}};
+ghost use Rattle.git_model.specs.{Repository.{Object}, StoredPath.{entries_in}};
 ghost use Rattle.git_model.specs.Tree.{TreeEntry as Entry, CanWriteTree, tree_contents};
 ghost use Rattle.git_model.specs.TreeReading.{tree_read};
 ghost use Rattle.git_objects.specs.Parts.{entries_of, entry_of};

@@ -1,15 +1,13 @@
 //! How queries are read. Nothing is looked up.
 
-ghost use Rattle.std.specs.Prelude.{◌≡◌, false, None, Some, codes, position};
-ghost use Rattle.std.specs.List.{before_first};
-ghost use Rattle.std.specs.Option.{option_copied, option_map};
-ghost use Rattle.std.specs.Str.{bytes_eq};
-ghost use Rattle.answers.specs.declared.fault.Fault.TheVariants as fault;
-ghost use Rattle.answers.specs.declared.query.Word.TheVariants as words;
+ghost use Rattle.std.specs.{Prelude.{◌≡◌, false, None, Some, codes, position}, List.{before_first}};
+ghost use Rattle.std.specs.{Option.{option_copied, option_map}, Str.{bytes_eq}};
 ghost use Rattle.revisions.specs.ExpressionReading.{expression_of};
 ghost use Rattle.git_model.specs.Results.{or_fault};
 ghost use Rattle.answers.specs.Faults.{Gives};
 ghost use Rattle.answers.specs.Queries.{after_space, is_space, query_by, query_of, word_of};
+ghost use Rattle.answers.specs.declared.fault.Fault.TheVariants as fault;
+ghost use Rattle.answers.specs.declared.query.Word.TheVariants as words;
 
 use crate::fault::Fault;
 use crate::query::{ObjectQuery, Query, RepositoryQuery, Word};

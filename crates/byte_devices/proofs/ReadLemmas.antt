@@ -1,9 +1,10 @@
 -- Bytes that were read, one call after another.
 use Rattle.std.proofs.Common.{◌≡◌, ℕ, zero, suc, ◌+◌, ◌^◌, ◌<◌, List, [], ◌∷◌, ◌++◌, length, take, get_or, refl, sym, ap, subst, ◌∙◌, append-nil, arith}
+use Rattle.std.proofs.lemmas.List.{length-append}
 use Rattle.std.specs.Io.KnownBytes.{Consumes, Keeps, IsAtEnd}
 use Rattle.byte_devices.specs.Device.{Device, HasRead, HasFault, counted_on}
 use Rattle.byte_devices.proofs.KnownBytes.{Consumes-nil, HasRead-trans, HasRead-kept}
-use Rattle.byte_devices.specs.Reading.{HasReadWell, HasReadAll, HasFailed}
+use Rattle.byte_devices.specs.Reading.{AreBytes, IsShort, HasReadWell, HasReadAll, HasFailed}
 
 pub well_none : (old : Device) → old.passed < 2 ^ 64 → HasReadWell old old []
 well_none old fits = record {
@@ -59,11 +60,19 @@ front_more (x ∷ front) buf n =
     ap (λ (m : ℕ). take m (x ∷ front ++ buf)) e
     ∙ ap (λ (l : List ℕ). x ∷ l) (front_more front buf n)
 
-pub small_front : (front buf : List ℕ) → ((i : ℕ) → get_or (front ++ buf) i 0 < 256) → (i : ℕ)
+small_front : (front buf : List ℕ) → ((i : ℕ) → get_or (front ++ buf) i 0 < 256) → (i : ℕ)
     → get_or front i 0 < 256
 small_front [] buf small i = omega arith
 small_front (x ∷ front) buf small zero = small 0
 small_front (x ∷ front) buf small (suc i) = small_front front buf (λ j. small (suc j)) i
+
+-- The front of a room lacks what is behind it.
+pub short_front : (front buf : List ℕ) → AreBytes (front ++ buf) → 0 < length buf
+    → IsShort (length (front ++ buf)) front
+short_front front buf bytes more = record {
+  lacks = let a = length-append front buf in omega (arith, a, more);
+  small = small_front front buf bytes;
+}
 
 -- The first bytes of a buffer were read after the front of a room.
 pub room_more : (a b c : Device) (room front buf : List ℕ) (filled n : ℕ) → front ≡ take filled room

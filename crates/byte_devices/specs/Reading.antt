@@ -1,5 +1,5 @@
 -- What several calls of `read` in a row did to a reader.
-use Rattle.std.specs.Prelude.{◌≡◌, ℕ, ◌<◌, List, length, get_or, Result, Ok, Err}
+use Rattle.std.specs.Prelude.{ℕ, ◌<◌, List, length, get_or, Result, Ok, Err}
 use Rattle.std.specs.Io.KnownBytes.{IsAtEnd}
 use Rattle.byte_devices.specs.Device.{Device, HasRead, HasFault, IsWell}
 use Rattle.byte_devices.specs.declared.fill_fault.FillFault.{FillFault}

@@ -3,10 +3,10 @@
 //! A call that can answer `Device` (68) takes one of these, so that the counts show afterwards
 //! whether the device failed. The counts assume nothing of the device inside.
 
-ghost use Rattle.std.specs.Prelude.{◌≡◌};
-ghost use Rattle.std.specs.Io.{ReadsAtMost, WritesAtMost};
+ghost use Rattle.std.specs.{Prelude.{◌≡◌}, Io.{ReadsAtMost, WritesAtMost}};
 ghost use Rattle.std.specs.Io.KnownBytes.{ReadConsumes, WriteAppends};
-ghost use Rattle.byte_devices.specs.Device.{device_of, calls_of, faults_of, passed_of, counted_on, faults_after_read, faults_after_write, passed_after};
+ghost use Rattle.byte_devices.specs.Device.{device_of, calls_of, faults_of, passed_of, counted_on};
+ghost use Rattle.byte_devices.specs.Device.{faults_after_read, faults_after_write, passed_after};
 
 use std::io;
 use std::io::{Read, Write};

@@ -1,8 +1,7 @@
 //! A reader for tests: it reads from another reader until a chosen call, which fails, as do all
 //! later calls.
 
-ghost use Rattle.std.specs.Prelude.{◌≡◌, ◌-◌, IsErr};
-ghost use Rattle.std.specs.Io.{ReadsAtMost};
+ghost use Rattle.std.specs.{Prelude.{◌≡◌, ◌-◌, IsErr}, Io.{ReadsAtMost}};
 ghost use Rattle.std.specs.Io.KnownBytes.{ReadConsumes};
 ghost use Rattle.byte_devices.specs.Failing.{reader_of, reads_left};
 

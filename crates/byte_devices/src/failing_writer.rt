@@ -1,9 +1,8 @@
 //! A writer for tests: it takes one byte a call until a chosen call, which fails, as do all later
 //! calls.
 
-ghost use Rattle.std.specs.Prelude.{◌≡◌, ◌-◌, ◌≤◌, IsErr, IfOk, take};
-ghost use Rattle.std.specs.Io.{WritesAtMost};
-ghost use Rattle.std.specs.Io.KnownBytes.{Keeps, WriteAppends};
+ghost use Rattle.std.specs.{Prelude.{◌≡◌, ◌-◌, ◌≤◌, IsErr, IfOk, take}, Io.{WritesAtMost}};
+ghost use Rattle.std.specs.Io.KnownBytes.{WriteAppends};
 ghost use Rattle.byte_devices.specs.Failing.{writer_of, writes_left};
 
 use std::io;

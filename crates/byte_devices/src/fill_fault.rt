@@ -11,10 +11,10 @@ pub enum FillFault {
     /// The input ended before the buffer was full: 51. A caller may decide that this is no fault,
     /// or that it has another number: a pool file that is cut off is 62.
     #[error("input ended")]
-    Ended,
+    Ended = 51,
     /// A call of the reader failed: 68.
     #[error("a reader failed")]
-    Failed,
+    Failed = 68,
 }
 
 impl FillFault {
@@ -22,9 +22,6 @@ impl FillFault {
     pub fn code(self) -> u16
         ensures { result ≡ fill_code self }
     {
-        match self {
-            FillFault::Ended => 51,
-            FillFault::Failed => 68,
-        }
+        self as u16
     }
 }

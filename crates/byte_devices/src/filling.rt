@@ -1,8 +1,7 @@
 //! Fills a buffer from a counted reader.
 
 ghost use Rattle.std.specs.Prelude.{◌≡◌, length};
-ghost use Rattle.byte_devices.specs.Device.{device_of, seen};
-ghost use Rattle.byte_devices.specs.Reading.{AreBytes, Fills};
+ghost use Rattle.byte_devices.specs.{Device.{device_of, seen}, Reading.{AreBytes, Fills}};
 
 use crate::counted::Counted;
 use crate::fill_fault::FillFault;

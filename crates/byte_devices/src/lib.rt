@@ -12,6 +12,7 @@ mod failing_writer;
 mod fill_fault;
 mod filling;
 mod whole_text;
+mod write_fault;
 
 pub use counted::Counted;
 pub use device_fault::DeviceFault;
@@ -20,3 +21,4 @@ pub use failing_writer::FailingWriter;
 pub use fill_fault::FillFault;
 pub use filling::fill;
 pub use whole_text::write_all;
+pub use write_fault::WriteFault;

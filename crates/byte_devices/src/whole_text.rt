@@ -1,7 +1,6 @@
 //! Writes whole texts to a counted writer.
 
-ghost use Rattle.std.specs.Prelude.{◌≡◌, OnOk, OnErr};
-ghost use Rattle.std.specs.Io.KnownBytes.{Appends};
+ghost use Rattle.std.specs.{Prelude.{◌≡◌, OnOk, OnErr}, Io.KnownBytes.{Appends}};
 ghost use Rattle.byte_devices.specs.Device.{device_of, faults_of, HasFault, AppendsFront};
 
 use crate::counted::Counted;

@@ -1,5 +1,5 @@
 -- Words in which `clap` finds no fault name a line: the subcommand is one of the program's own, and each of its arguments has a value.
-use Rattle.std.proofs.Common.{◌≡◌, ◌&&◌, ◌||◌, ℕ, Bool, cond, true, false, not, refl, sym, subst, codes, List, [], ◌∷◌, fold, Option, Some, None, is_some, option_map, option_and_then, true≢false}
+use Rattle.std.proofs.Common.{◌≡◌, ◌&&◌, ◌||◌, ℕ, Bool, cond, true, false, not, refl, sym, subst, codes, List, [], ◌∷◌, fold, find, Option, Some, None, is_some, option_map, option_and_then, true≢false}
 use Rattle.std.specs.List.{list_all, list_any}
 use Rattle.std.specs.Option.{option_map_or}
 use Rattle.std.specs.Str.{bytes_eq}
@@ -251,42 +251,30 @@ extract_says words none = two_says extract_usage extract (codes "tenant") (codes
 
 -- ---- the whole command line
 
--- the first subcommand whose test holds
-abbrev first : Bool → Bool → Bool → Bool → Bool → Bool → Bool → Bool → Bool → Bool → Bool → Bool → Bool → Option Shape
-first a b c d e f g h i j k l m =
-    cond a (Some (leaf serve_usage)) (cond b (Some (leaf import_usage)) (cond c (Some (leaf ask_usage)) (
-    cond d (Some (leaf check_usage)) (cond e (Some (leaf copy_usage)) (cond f (Some (leaf remove_usage)) (
-    cond g (Some (leaf compact_usage)) (cond h (Some (leaf sizes_usage)) (cond i (Some (leaf extract_usage)) (
-    cond j (Some (leaf merge_usage)) (cond k (Some (leaf host_usage)) (cond l (Some (leaf pack_usage)) (
-    cond m (Some (built_leaf help_shape)) None))))))))))))
+-- If a subcommand was found and its words have no fault, it names a line.
+record SaysSome (words : List Text) (found : Option Shape) : Type 0 where
+  says : option_map_or (λ s. level_fault s [] nothing_held words false []) found [] ≡ [] → is_some (option_map (λ s. rows_at s words) found) ≡ true
+      → is_some (option_and_then said_by (option_map (λ s. rows_at s words) found)) ≡ true
 
-first_says : (words : List Text) (a b c d e f g h i j k l m : Bool) → m ≡ false
-    → option_map_or (λ s. level_fault s [] nothing_held words false []) (first a b c d e f g h i j k l m) [] ≡ []
-    → is_some (option_map (λ s. rows_at s words) (first a b c d e f g h i j k l m)) ≡ true
-    → is_some (option_and_then said_by (option_map (λ s. rows_at s words) (first a b c d e f g h i j k l m))) ≡ true
-first_says words true b c d e f g h i j k l m other none some = serve_says words none
-first_says words false true c d e f g h i j k l m other none some = import_says words none
-first_says words false false true d e f g h i j k l m other none some = ask_says words none
-first_says words false false false true e f g h i j k l m other none some = check_says words none
-first_says words false false false false true f g h i j k l m other none some = copy_says words none
-first_says words false false false false false true g h i j k l m other none some = remove_says words none
-first_says words false false false false false false true h i j k l m other none some = compact_says words none
-first_says words false false false false false false false true i j k l m other none some = sizes_says words none
-first_says words false false false false false false false false true j k l m other none some = extract_says words none
-first_says words false false false false false false false false false true k l m other none some = merge_says words none
-first_says words false false false false false false false false false false true l m other none some = host_says words none
-first_says words false false false false false false false false false false false true m other none some = pack_says words none
-first_says words false false false false false false false false false false false false true other none some = absurd (true≢false other)
-first_says words false false false false false false false false false false false false false other none some = absurd (true≢false (sym some))
+-- the next subcommand, if its test holds
+or_says : {words : List Text} {later : Option Shape} (answers : Bool) (s : Shape) → Says s → SaysSome words later → SaysSome words (cond answers (Some (leaf s)) later)
+or_says {words} true s says later = record { says = λ none some. says words none }
+or_says {words} false s says later = later
+
+none_says : {words : List Text} (answers : Bool) (s : Shape) → answers ≡ false → SaysSome words (cond answers (Some s) None)
+none_says true s other = absurd (true≢false other)
+none_says false s other = record { says = λ none some. absurd (true≢false (sym some)) }
 
 entered_says : (stop : Option (Text × List Text)) → is_own stop ≡ true → entered_fault (built gitpool) stop ≡ [] → is_some (entered (built gitpool) stop) ≡ true
     → is_some (option_and_then said_by (entered (built gitpool) stop)) ≡ true
 entered_says None own none some = absurd (true≢false (sym some))
 entered_says (Some p) own none some =
-    let answers : Shape → Bool = λ s. answers_to p.0 (label_of s) in
-    first_says p.1 (answers (leaf serve_usage)) (answers (leaf import_usage)) (answers (leaf ask_usage)) (answers (leaf check_usage))
-    (answers (leaf copy_usage)) (answers (leaf remove_usage)) (answers (leaf compact_usage)) (answers (leaf sizes_usage))
-    (answers (leaf extract_usage)) (answers (leaf merge_usage)) (answers (leaf host_usage)) (answers (leaf pack_usage)) (answers (built_leaf help_shape)) (no_help p.0 own) none some
+    let found : SaysSome p.1 (find (λ s. answers_to p.0 (label_of s)) (built gitpool).subs) =
+    or_says _ serve_usage serve_says (or_says _ import_usage import_says (or_says _ ask_usage ask_says (or_says _ check_usage check_says (
+    or_says _ copy_usage copy_says (or_says _ remove_usage remove_says (or_says _ compact_usage compact_says (or_says _ sizes_usage sizes_says (
+    or_says _ extract_usage extract_says (or_says _ merge_usage merge_says (or_says _ host_usage host_says (or_says _ pack_usage pack_says (
+    none_says _ _ (no_help p.0 own))))))))))))) in
+    found.says none some
 
 is_met : (b : Bool) → (not b && true) ≡ false → b ≡ true
 is_met true e = refl

@@ -43,6 +43,10 @@ pool_usage name = subcommand name (pool_option ∷ [])
 abbrev pub tenant_usage : Text → Shape
 tenant_usage name = subcommand name (argument (codes "tenant") ∷ pool_option ∷ [])
 
+-- `NAME FIRST SECOND --pool FILE`
+abbrev pub two_usage : Text → Text → Text → Shape
+two_usage name first second = subcommand name (argument first ∷ argument second ∷ pool_option ∷ [])
+
 -- `serve --pool FILE`
 abbrev pub serve_usage : Shape
 serve_usage = pool_usage (codes "serve")
@@ -53,8 +57,7 @@ import_usage = tenant_usage (codes "import")
 
 -- `ask TENANT QUERY --pool FILE`
 abbrev pub ask_usage : Shape
-ask_usage = subcommand (codes "ask")
-    (argument (codes "tenant") ∷ argument (codes "query") ∷ pool_option ∷ [])
+ask_usage = two_usage (codes "ask") (codes "tenant") (codes "query")
 
 -- `check --pool FILE`
 abbrev pub check_usage : Shape
@@ -62,8 +65,7 @@ check_usage = pool_usage (codes "check")
 
 -- `copy FROM TO --pool FILE`
 abbrev pub copy_usage : Shape
-copy_usage = subcommand (codes "copy")
-    (argument (codes "from") ∷ argument (codes "to") ∷ pool_option ∷ [])
+copy_usage = two_usage (codes "copy") (codes "from") (codes "to")
 
 -- `remove TENANT --pool FILE`
 abbrev pub remove_usage : Shape

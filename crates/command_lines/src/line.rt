@@ -6,11 +6,9 @@ ghost use Rattle.std.specs.Prelude.{◌≡◌, ◌∷◌, [], IfErr, IfOk, Match
 ghost use Rattle.std.specs.Prelude.{option_and_then, option_map, true};
 ghost use Rattle.clap.specs.Words.{FailsBy, Text, fault_of, first_of, found_of, kind_of, rows_of};
 ghost use Rattle.clap.specs.Words.{subcommand_of, subcommand_rows_of, takes};
-ghost use Rattle.clap.specs.declared.error.kind.ErrorKind.TheVariants.{DisplayVersion};
-ghost use Rattle.clap.specs.declared.error.kind.ErrorKind.TheVariants.{OutOfMemory};
+ghost use Rattle.clap.specs.declared.error.kind.ErrorKind.TheVariants.{DisplayVersion, OutOfMemory};
 ghost use Rattle.command_lines.specs.Lines.{AsksVersion, Said, is_set, said, said_by, said_in};
-ghost use Rattle.command_lines.specs.Lines.{two_given, words_of};
-ghost use Rattle.command_lines.specs.Usage.{gitpool};
+ghost use Rattle.command_lines.specs.{Lines.{two_given, words_of}, Usage.{gitpool}};
 
 use crate::usage::gitpool;
 use clap::{ArgMatches, Error};

@@ -10,7 +10,7 @@ ghost use Rattle.clap.specs.Words.{App, Shape, app_of, rule_of, with_subcommand}
 ghost use Rattle.command_lines.specs.Usage.{ReadsWords, TakesMore, all_flag, alone, argument};
 ghost use Rattle.command_lines.specs.Usage.{ask_usage, copy_usage, extract_usage, flag_of, gitpool};
 ghost use Rattle.command_lines.specs.Usage.{merge_usage, option_of, pack_usage, pool_option};
-ghost use Rattle.command_lines.specs.Usage.{pool_usage, subcommand, tenant_usage, to_option};
+ghost use Rattle.command_lines.specs.Usage.{pool_usage, subcommand, tenant_usage};
 
 use crate::version::VERSION;
 use clap::{Arg, ArgAction, Command};
@@ -73,6 +73,18 @@ fn with_tenant<'a>(
     with_word(alloc, command, "tenant", "TENANT", "The tenant's name")
 }
 
+// The subcommand with an option that names a file.
+fn with_file<'a>(
+    alloc: Global,
+    command: Result<Command<'a>, AllocError>,
+    id: &'a str,
+    help: &'a str,
+) -> Result<Command<'a>, AllocError>
+    ensures { TakesMore command.entry (option_of id.entry.now) result }
+{
+    command?.arg(file_option(alloc, id, help))
+}
+
 // The subcommand with `--pool`, which every subcommand has.
 fn with_pool<'a>(
     alloc: Global,
@@ -80,17 +92,7 @@ fn with_pool<'a>(
 ) -> Result<Command<'a>, AllocError>
     ensures { TakesMore command.entry pool_option result }
 {
-    command?.arg(file_option(alloc, "pool", "The pool file"))
-}
-
-// The subcommand with `--to`, the file that it writes.
-fn with_target<'a>(
-    alloc: Global,
-    command: Result<Command<'a>, AllocError>,
-) -> Result<Command<'a>, AllocError>
-    ensures { TakesMore command.entry to_option result }
-{
-    command?.arg(file_option(alloc, "to", "The pool file to write"))
+    with_file(alloc, command, "pool", "The pool file")
 }
 
 // The subcommand with `--all`, which wants every ref.
@@ -147,7 +149,8 @@ fn extract<'a>(alloc: Global) -> Result<Command<'a>, AllocError>
     ensures { IfOk result (λ c. ReadsWords c extract_usage) }
 {
     let about = "Write a tenant to a pool file of its own";
-    with_target(alloc, for_tenant(alloc, "extract", about))
+    let command = for_tenant(alloc, "extract", about);
+    with_file(alloc, command, "to", "The pool file to write")
 }
 
 fn merge<'a>(alloc: Global) -> Result<Command<'a>, AllocError>

@@ -1,12 +1,11 @@
 //! Which commits reach which, for many questions about one list of objects.
 
-ghost use Rattle.std.specs.Prelude.{◌≡◌, ◌+◌, ◌-◌, ◌<◌, ◌≤◌, List, length, slice_index_or, false, IfOk, IfSome};
-ghost use Rattle.git_model.specs.Repository.{Object};
-ghost use Rattle.git_model.specs.References.{object_at};
+ghost use Rattle.std.specs.Prelude.{◌≡◌, ◌+◌, ◌-◌, ◌<◌, ◌≤◌, List, length, slice_index_or, false};
+ghost use Rattle.std.specs.Prelude.{IfOk, IfSome};
+ghost use Rattle.git_model.specs.{Repository.{Object}, References.{object_at}, Reach.{reaches}};
 ghost use Rattle.git_model.specs.GoodRepository.{AreObjects};
-ghost use Rattle.git_model.specs.Reach.{reaches};
-ghost use Rattle.commit_walk.specs.Marks.{IsReached};
-ghost use Rattle.commit_walk.specs.Remembered.{AreParentPlaces, Tells, IsDoneWalk, HaveParents, Remembers};
+ghost use Rattle.commit_walk.specs.{Marks.{IsReached}, Remembered.{Remembers}};
+ghost use Rattle.commit_walk.specs.Remembered.{AreParentPlaces, Tells, IsDoneWalk, HaveParents};
 
 use crate::commits::commit_place;
 use crate::parents::parent_places;
@@ -40,8 +39,7 @@ pub struct Ancestry<'a, N: Naming> {
 
 impl<'a, N: Naming> Model for Ancestry<'a, N> {
     ghost use Rattle.std.specs.Prelude.{List};
-    ghost use Rattle.git_model.specs.Repository.{Object};
-    ghost use Rattle.git_model.specs.GoodRepository.{AreObjects};
+    ghost use Rattle.git_model.specs.{Repository.{Object}, GoodRepository.{AreObjects}};
     ghost use Rattle.commit_walk.specs.Remembered.{HaveParents, Remembers};
 
     ghost Value = { List Object };

@@ -1,9 +1,8 @@
 //! Commits among objects, and their parents.
 
 ghost use Rattle.std.specs.Prelude.{◌≡◌, ◌<◌, length, true, false, MatchOption, IfOk};
-ghost use Rattle.git_model.specs.References.{place_of, object_at, parents_of};
+ghost use Rattle.git_model.specs.{References.{place_of, object_at, parents_of}, Peeling.{is_of}};
 ghost use Rattle.git_model.specs.GoodRepository.{AreObjects};
-ghost use Rattle.git_model.specs.Peeling.{is_of};
 
 use crate::lines::parents_in;
 use git_objects::{Kind, Memory, Name, Naming};

@@ -4,7 +4,8 @@
 //! Here they are known to be, as in good objects, and only the lines that are needed are read. The
 //! answer for other contents is not specified.
 
-ghost use Rattle.std.specs.Prelude.{◌≡◌, ◌<◌, ◌++◌, ℕ, List, Some, None, IfSome, IsSomeAnd, codes, length, slice_get, IfOk};
+ghost use Rattle.std.specs.Prelude.{◌≡◌, ◌<◌, ◌++◌, ℕ, List, Some, None, IfSome, IsSomeAnd, codes};
+ghost use Rattle.std.specs.Prelude.{length, slice_get, IfOk};
 ghost use Rattle.git_model.specs.ObjectName.{IsObjectName};
 ghost use Rattle.git_model.specs.Commit.{Commit, CanWriteCommit, commit_contents, name_line};
 ghost use Rattle.commit_walk.specs.HeaderLines.{after_parents, after_tree};

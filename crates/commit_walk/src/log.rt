@@ -1,11 +1,10 @@
 //! The log of a set of commits: git-log(1), from new to old.
 
-ghost use Rattle.std.specs.Prelude.{◌≡◌, ◌++◌, ◌∷◌, [], ℕ, ◌<◌, ◌↔◌, List, Bool, length, map, filter, true, IfOk, OnOk, IsTrue};
+ghost use Rattle.std.specs.Prelude.{◌≡◌, ◌++◌, ◌∷◌, [], ℕ, ◌<◌, ◌↔◌, List, Bool, length, map};
+ghost use Rattle.std.specs.Prelude.{filter, IfOk, OnOk, IsTrue};
 ghost use Rattle.git_model.specs.Commit.{Commit, CanWriteCommit, commit_contents};
-ghost use Rattle.git_model.specs.CommitReading.{commit_time};
-ghost use Rattle.git_model.specs.Repository.{Object};
-ghost use Rattle.git_model.specs.References.{object_at};
-ghost use Rattle.git_model.specs.GoodRepository.{AreObjects};
+ghost use Rattle.git_model.specs.{CommitReading.{commit_time}, Repository.{Object}};
+ghost use Rattle.git_model.specs.{References.{object_at}, GoodRepository.{AreObjects}};
 ghost use Rattle.git_model.specs.Peeling.{is_of};
 ghost use Rattle.commit_walk.specs.Logs.{log_key, log_of, in_log_order, IsLogOf};
 

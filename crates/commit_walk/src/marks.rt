@@ -1,8 +1,7 @@
 //! Marks of objects: one flag for each position from `floor` on.
 
 ghost use Rattle.std.specs.Prelude.{◌≡◌, ◌+◌, ◌≤◌, ℕ, List, [], ◌∷◌, length, map};
-ghost use Rattle.git_model.specs.Repository.{Object};
-ghost use Rattle.git_model.specs.References.{place_of};
+ghost use Rattle.git_model.specs.{Repository.{Object}, References.{place_of}};
 ghost use Rattle.commit_walk.specs.Marks.{Marks};
 
 use git_objects::{Name, Naming};

@@ -1,8 +1,7 @@
 //! The positions of the parents of commits, for walks that go over them again and again.
 
 ghost use Rattle.std.specs.Prelude.{◌≡◌, ◌<◌, length, IfOk};
-ghost use Rattle.git_model.specs.References.{object_at};
-ghost use Rattle.git_model.specs.GoodRepository.{AreObjects};
+ghost use Rattle.git_model.specs.{References.{object_at}, GoodRepository.{AreObjects}};
 ghost use Rattle.commit_walk.specs.Remembered.{AreParentPlaces, parent_places};
 
 use crate::commits::parents_at;

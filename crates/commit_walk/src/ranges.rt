@@ -4,13 +4,11 @@
 //! to early positions settles which of them reaches a commit. It stops where no commit that only
 //! one of them reaches is left, so it costs what the range names and not the whole history.
 
-ghost use Rattle.std.specs.Prelude.{◌≡◌, ◌≤◌, ◌<◌, ◌&&◌, ◌||◌, not, [], ◌∷◌, true, false, All, get_or, length, replicate, IfOk, OnOk};
-ghost use Rattle.git_model.specs.References.{place_of, object_at, parents_of};
-ghost use Rattle.git_model.specs.GoodRepository.{AreObjects};
-ghost use Rattle.git_model.specs.Peeling.{is_of};
-ghost use Rattle.git_model.specs.Reach.{reaches};
-ghost use Rattle.commit_walk.specs.Logs.{log_of, AreKeysOf};
-ghost use Rattle.commit_walk.specs.Marks.{MarksIf};
+ghost use Rattle.std.specs.Prelude.{◌≡◌, ◌≤◌, ◌<◌, ◌&&◌, ◌||◌, not, [], ◌∷◌, true, false, All};
+ghost use Rattle.std.specs.Prelude.{get_or, length, replicate, IfOk};
+ghost use Rattle.git_model.specs.{References.{place_of}, GoodRepository.{AreObjects}};
+ghost use Rattle.git_model.specs.{Peeling.{is_of}, Reach.{reaches}};
+ghost use Rattle.commit_walk.specs.{Logs.{log_of, AreKeysOf}, Marks.{MarksIf}};
 ghost use Rattle.commit_walk.specs.Ranges.{is_apart, is_apart_in};
 
 use crate::commits::{commit_place, parents_at};

@@ -1,14 +1,11 @@
 //! Walks from a commit to all that it reaches.
 
-ghost use Rattle.std.specs.Prelude.{◌≡◌, ◌+◌, ◌-◌, ◌<◌, ◌≤◌, ℕ, Bool, List, length, map, replicate, false, IfOk, OnOk};
-ghost use Rattle.git_model.specs.References.{object_at, parents_of};
-ghost use Rattle.git_model.specs.GoodRepository.{AreObjects};
-ghost use Rattle.git_model.specs.Reach.{reaches};
-ghost use Rattle.tenant_tables.specs.Objects.{objects};
-ghost use Rattle.tenant_tables.specs.IsBackedBy.{IsBackedBy};
-ghost use Rattle.git_model.specs.Repository.{Object};
-ghost use Rattle.commit_walk.specs.Marks.{is_marked, Marks, IsReached};
-ghost use Rattle.commit_walk.specs.Remembered.{AreParentPlaces};
+ghost use Rattle.std.specs.Prelude.{◌≡◌, ◌+◌, ◌-◌, ◌<◌, ◌≤◌, ℕ, List, length, map, replicate};
+ghost use Rattle.std.specs.Prelude.{false, IfOk, OnOk};
+ghost use Rattle.git_model.specs.{References.{object_at, parents_of}, GoodRepository.{AreObjects}};
+ghost use Rattle.git_model.specs.{Reach.{reaches}, Repository.{Object}};
+ghost use Rattle.tenant_tables.specs.{Objects.{objects}, IsBackedBy.{IsBackedBy}};
+ghost use Rattle.commit_walk.specs.{Marks.{Marks, IsReached}, Remembered.{AreParentPlaces}};
 
 use crate::ancestry::Ancestry;
 use crate::commits::{commit_place, parents_at};

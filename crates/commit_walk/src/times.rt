@@ -1,7 +1,7 @@
 //! When commits were made: "commit object" in gitglossary(7). Nothing here takes memory.
 
-ghost use Rattle.std.specs.Prelude.{◌≡◌, ◌≢◌, ◌==◌, ◌≤◌, ◌∷◌, ◌++◌, ℕ, List, All, length, take, position, unwrap_or};
-ghost use Rattle.std.specs.List.{prefix_len};
+ghost use Rattle.std.specs.Prelude.{◌≡◌, ◌≢◌, ◌==◌, ◌≤◌, ◌∷◌, ◌++◌, ℕ, List, All, length, take};
+ghost use Rattle.std.specs.{Prelude.{position, unwrap_or}, List.{prefix_len}};
 ghost use Rattle.std.specs.Char.{is_ascii_digit};
 ghost use Rattle.numerals.specs.Numbers.{number_of};
 ghost use Rattle.git_model.specs.Commit.{Commit, CanWriteCommit, commit_contents};

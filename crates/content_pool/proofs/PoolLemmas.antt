@@ -33,11 +33,12 @@ pub Writes-updates : (old new : Slab Stored) (k : ℕ) (o : Option Stored) → U
     → Writes old.slots new.slots k o
 Writes-updates old new k o updates = record { here = updates.changed; others = updates.others }
 
--- A slab's update after a change of its capacity alone, at a key that was told before.
+-- A slab's update after a change of its capacity alone, at a vacant key that was told before.
 pub Writes-after : (first old new : Slab Stored) (k key : ℕ) (o : Option Stored)
-    → old.slots ≡ first.slots → k ≡ key → Updates old new k o → Writes first.slots new.slots key o
-Writes-after first old new k key o same told updates =
-    rw (← same, ← told) (Writes-updates old new k o updates)
+    → old.slots ≡ first.slots → cell old.slots key ≡ None → k ≡ key → Updates old new k o
+    → (cell first.slots key ≡ None) × Writes first.slots new.slots key o
+Writes-after first old new k key o same vacant told updates =
+    (ap (λ p. cell p key) (sym same) ∙ vacant, rw (← same, ← told) (Writes-updates old new k o updates))
 
 -- What a slot holds, from what is stored there.
 pub holds-at : (p : Cells) (s : ℕ) (e : Stored) → cell p s ≡ Some e → holds p s ≡ e.holds
@@ -73,6 +74,18 @@ one_at-apart id n k s apart =
     elim (cases_Bool (bytes_eq id n)) [
       | inl named ↦ rw (named, different)
       | inr other ↦ rw other
+    ]
+
+-- A change at one slot, and at that slot in the buckets.
+IsIndexed-changed : (p q : Cells) (k : ℕ) (m m' : Buckets) → IsIndexed p m
+    → ((s : ℕ) → s ≢ k → cell q s ≡ cell p s)
+    → ((name : List ℕ) → times (bucket m' name) k ≡ (if has_prefix q k name then 1 else 0))
+    → ((name : List ℕ) (s : ℕ) → s ≢ k → times (bucket m' name) s ≡ times (bucket m name) s)
+    → IsIndexed q m'
+IsIndexed-changed p q k m m' indexed others at_k apart name s =
+    elim (cases_eq s k) [
+      | inl same ↦ rw same (at_k name)
+      | inr other ↦ rw (others s other) (apart name s other ∙ indexed name s)
     ]
 
 -- A live slot stores something.
@@ -175,16 +188,11 @@ module _ (p q : Cells) (k : ℕ) (e : Stored) (was : cell p k ≡ Some e) (w : W
           ]
 
   pub IsIndexed-given_up : (m m' : Buckets) → IsIndexed p m → Forgets m m' e.prefix k → IsIndexed q m'
-  IsIndexed-given_up m m' indexed forgets name s =
-      elim (cases_eq s k) [
-        | inl same ↦
-            rw (same, w.here) (omega (arith, one_at-here e.prefix name k, forgets.taken name k, at_k))
-        | inr apart ↦
-            rw (w.others s apart) (omega (arith, one_at-apart e.prefix name k s apart, forgets.taken name s, indexed name s))
-      ]
-    where
-      at_k : times (bucket m name) k ≡ (if bytes_eq e.prefix name then 1 else 0)
-      at_k = indexed name k ∙ rw was
+  IsIndexed-given_up m m' indexed forgets =
+      IsIndexed-changed p q k m m' indexed w.others
+      (λ name. let at_k : times (bucket m name) k ≡ (if bytes_eq e.prefix name then 1 else 0) = indexed name k ∙ rw was in
+      rw w.here (omega (arith, one_at-here e.prefix name k, forgets.taken name k, at_k)))
+      (λ name s apart. omega (arith, one_at-apart e.prefix name k s apart, forgets.taken name s))
 
   pub Releases-given_up : e.holds ≡ 1 → Releases p q k
   Releases-given_up last =
@@ -245,16 +253,11 @@ module _ (p q : Cells) (k : ℕ) (e : Stored) (was : cell p k ≡ None)
           (content-at p s f is ∙ same)
 
   pub IsIndexed-stored : (m m' : Buckets) → IsIndexed p m → Notes m m' e.prefix k → IsIndexed q m'
-  IsIndexed-stored m m' indexed notes name s =
-      elim (cases_eq s k) [
-        | inl same ↦
-            rw (same, w.here) (omega (arith, one_at-here e.prefix name k, notes.added name k, at_k))
-        | inr apart ↦
-            rw (w.others s apart) (omega (arith, one_at-apart e.prefix name k s apart, notes.added name s, indexed name s))
-      ]
-    where
-      at_k : times (bucket m name) k ≡ 0
-      at_k = indexed name k ∙ rw was
+  IsIndexed-stored m m' indexed notes =
+      IsIndexed-changed p q k m m' indexed w.others
+      (λ name. let at_k : times (bucket m name) k ≡ 0 = indexed name k ∙ rw was in
+      rw w.here (omega (arith, one_at-here e.prefix name k, notes.added name k, at_k)))
+      (λ name s apart. omega (arith, one_at-apart e.prefix name k s apart, notes.added name s))
 
   pub Puts-stored : e.holds ≡ 1 → Puts p q k (content_of e)
   Puts-stored once =

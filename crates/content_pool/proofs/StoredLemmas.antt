@@ -12,7 +12,8 @@ use Rattle.std.proofs.lemmas.List.Sums.{sum_by-cons}
 use Rattle.slab.specs.Slab.{entries_from}
 use Rattle.slab.proofs.SlabLemmas.{Contains-cons, Contains-cons_cases}
 use Rattle.git_model.specs.declared.kind.Kind.{Kind}
-use Rattle.git_model.specs.declared.kind.Kind.TheVariants.{Commit, Tree, Blob, Tag}
+use Rattle.git_model.specs.TagReading.{kind_named_by}
+use Rattle.git_model.proofs.TagReadings.{kind_back}
 use Rattle.git_model.specs.Kind.{kind_word}
 use Rattle.git_model.specs.Content.{Content, content_from}
 use Rattle.content_pool.specs.Pool.{Cells, cell, content_of, holds, content, IsLive, HoldsEachOnce}
@@ -22,22 +23,9 @@ use Rattle.content_pool.proofs.DistinctSums.{length-sum_by, apart_from_absent, u
 use Rattle.content_pool.specs.declared.stored.Stored.{Stored}
 
 same_kind : (a b : Kind) → Decides (bytes_eq (kind_word a) (kind_word b)) (a ≡ b)
-same_kind Commit Commit = (λ _. refl, λ _. refl)
-same_kind Commit Tree = (λ e. absurd (true≢false (sym e)), λ e. absurd (cc))
-same_kind Commit Blob = (λ e. absurd (true≢false (sym e)), λ e. absurd (cc))
-same_kind Commit Tag = (λ e. absurd (true≢false (sym e)), λ e. absurd (cc))
-same_kind Tree Commit = (λ e. absurd (true≢false (sym e)), λ e. absurd (cc))
-same_kind Tree Tree = (λ _. refl, λ _. refl)
-same_kind Tree Blob = (λ e. absurd (true≢false (sym e)), λ e. absurd (cc))
-same_kind Tree Tag = (λ e. absurd (true≢false (sym e)), λ e. absurd (cc))
-same_kind Blob Commit = (λ e. absurd (true≢false (sym e)), λ e. absurd (cc))
-same_kind Blob Tree = (λ e. absurd (true≢false (sym e)), λ e. absurd (cc))
-same_kind Blob Blob = (λ _. refl, λ _. refl)
-same_kind Blob Tag = (λ e. absurd (true≢false (sym e)), λ e. absurd (cc))
-same_kind Tag Commit = (λ e. absurd (true≢false (sym e)), λ e. absurd (cc))
-same_kind Tag Tree = (λ e. absurd (true≢false (sym e)), λ e. absurd (cc))
-same_kind Tag Blob = (λ e. absurd (true≢false (sym e)), λ e. absurd (cc))
-same_kind Tag Tag = (λ _. refl, λ _. refl)
+same_kind a b =
+    Decides-like (bytes_eq (kind_word a) (kind_word b)) (λ e. sym (kind_back a) ∙ ap kind_named_by e ∙ kind_back b)
+    (ap kind_word) (bytes_decides (kind_word a) (kind_word b))
 
 -- The test of two contents answers whether they are equal.
 pub same_content-decides : (c d : Content) → Decides (same_content c d) (c ≡ d)

@@ -1,8 +1,7 @@
 -- How the pool finds a content: the prefix of its object name leads to a bucket of slots. No public
 -- clause cites this module.
 use Rattle.std.specs.Prelude.{◌≡◌, ℕ, length, slice_index, IsSome, ◌+◌, ◌<◌, ◌==◌, ◌&&◌, Bool}
-use Rattle.std.specs.Prelude.{false, if◌then◌else◌, List, []}
-use Rattle.std.specs.Prelude.{Some, ◌∷◌, take, count_by, unwrap_or}
+use Rattle.std.specs.Prelude.{false, if◌then◌else◌, List, [], Some, ◌∷◌, take, count_by, unwrap_or}
 use Rattle.std.specs.Option.{option_map_or}
 use Rattle.std.specs.Str.{bytes_eq}
 use Rattle.std.specs.Map.{lookup}

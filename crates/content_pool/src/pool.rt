@@ -7,14 +7,12 @@
 //! `put` of a blob `a` answers a slot. `put` of `a` again answers the same slot, which is then held
 //! twice. After two releases the slot is free, and the next new content is stored there.
 
-ghost use Rattle.std.specs.Prelude.{◌≡◌, ℕ, ◌∷◌, ◌++◌, ◌-◌, ◌<◌, ◌^◌, [], List, length, min};
-ghost use Rattle.std.specs.Prelude.{sum_by, slice_index, IsSome, MatchOption, IfOk, OnErr};
+ghost use Rattle.std.specs.Prelude.{◌≡◌, ◌-◌, ◌<◌, ◌^◌, List, length, min, sum_by, MatchOption};
+ghost use Rattle.std.specs.Prelude.{IfOk, OnErr};
 ghost use Rattle.slab.specs.Slab.{values};
-ghost use Rattle.git_model.specs.ObjectName.{object_name};
-ghost use Rattle.git_model.specs.Content.{content_from};
-ghost use Rattle.content_pool.specs.Pool.{cell, content_of, holds, content, IsLive, CanHold};
-ghost use Rattle.content_pool.specs.Pool.{HasHoldsLeft, IsVacant, IsAbsent, HoldsEachOnce, Puts};
-ghost use Rattle.content_pool.specs.Pool.{Releases};
+ghost use Rattle.git_model.specs.{ObjectName.{object_name}, Content.{content_from}};
+ghost use Rattle.content_pool.specs.Pool.{holds, content, IsLive, CanHold, HasHoldsLeft, IsVacant};
+ghost use Rattle.content_pool.specs.Pool.{IsAbsent, HoldsEachOnce, Puts, Releases};
 ghost use Rattle.content_pool.specs.Index.{AllStored, Stores, StoresNone};
 ghost use Rattle.content_pool.specs.LiveContents.{live_contents, stored_sizes, ListsLive};
 
@@ -45,8 +43,7 @@ pub struct Pool<N: Naming> {
 }
 
 impl<N: Naming> Model for Pool<N> {
-    ghost use Rattle.content_pool.specs.Pool.{Cells};
-    ghost use Rattle.content_pool.specs.Index.{IsPool, IsIndexed};
+    ghost use Rattle.content_pool.specs.{Pool.{Cells}, Index.{IsPool, IsIndexed}};
 
     ghost Value = { Cells };
 

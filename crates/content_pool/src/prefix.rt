@@ -1,7 +1,6 @@
 //! What of an object name leads to a bucket.
 
-ghost use Rattle.std.specs.Prelude.{◌≡◌, ◌∷◌, []};
-ghost use Rattle.std.specs.Cmp.Rules.{hashing};
+ghost use Rattle.std.specs.{Prelude.{◌≡◌, ◌∷◌, []}, Cmp.Rules.{hashing}};
 ghost use Rattle.content_pool.specs.Index.{prefix_of};
 ghost use Rattle.std.proofs.Common.{rules};
 

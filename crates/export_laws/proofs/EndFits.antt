@@ -1,14 +1,14 @@
 -- A sound repository whose objects fit into a stream can be exported.
-use Rattle.std.proofs.Common.{◌≡◌, ℕ, suc, ◌<◌, List, [], ◌∷◌, length, All, Some, subst, arith}
+use Rattle.std.proofs.Common.{◌≡◌, ℕ, ◌<◌, List, [], ◌∷◌, length, All, Some}
 use Rattle.std.specs.List.{AllByRecursion}
-use Rattle.std.proofs.lemmas.List.Elements.{All-from_recursion, recursion_from_All}
+use Rattle.std.proofs.lemmas.List.Elements.{All-from_get_or, All-from_recursion, recursion_from_All}
 use Rattle.git_model.specs.declared.kind.Kind.{Kind}
 use Rattle.git_model.specs.declared.kind.Kind.TheVariants as kind
 use Rattle.git_model.specs.CommitReading.{commit_read}
 use Rattle.git_model.specs.GoodRepository.{StandsBefore}
 use Rattle.git_model.specs.References.{Reference, kind_named, object_at, references_in, references_of}
 use Rattle.git_model.specs.Repository.{Object, Repository}
-use Rattle.git_model.proofs.Places.{at_place, first_object, later_object}
+use Rattle.git_model.proofs.Places.{at_place}
 use Rattle.file_maps.specs.FileMap.{IsFile, Listed, listed}
 use Rattle.file_maps.specs.StoredFiles.{stored_map}
 use Rattle.file_maps.proofs.Apart.{all-weaker}
@@ -19,11 +19,8 @@ use Rattle.export_laws.proofs.OpenTrees.{files-good}
 
 from-places : (P : Object → Type 0) (os : List Object)
     → ((i : ℕ) → i < length os → P (object_at i os)) → AllByRecursion P os
-from-places P [] h = tt
-from-places P (o ∷ os) h = (
-  subst P (first_object o os) (h 0 (omega arith)),
-  from-places P os (λ i lt. subst P (later_object i o os) (h (suc i) (omega arith))),
-)
+unfolding object_at
+from-places P os h = recursion_from_All P os (All-from_get_or P os _ h)
 
 -- the files of a branch have paths within the limits
 paths-fit : (files : Listed) → AllByRecursion IsFile files → AllByRecursion FitsPath files

@@ -1,5 +1,5 @@
 -- The repository of one commit is sound, and fits into a stream.
-use Rattle.std.proofs.Common.{◌≡◌, ◌≢◌, ℕ, suc, ◌+◌, ◌≤◌, Bool, true, false, cond, filter, List, [], ◌∷◌, ◌++◌, length, All, Option, None, Some, refl, sym, ap, ◌∙◌, subst, inl, inr, arith, codes, le-leb, length-append}
+use Rattle.std.proofs.Common.{◌≡◌, ◌≢◌, ℕ, suc, ◌+◌, ◌<◌, ◌≤◌, Bool, true, false, cond, filter, List, [], ◌∷◌, ◌++◌, length, All, Option, None, Some, refl, sym, ap, ◌∙◌, subst, inl, inr, arith, codes, le-leb, length-append}
 use Rattle.std.specs.Prelude.{is_some, map}
 use Rattle.std.specs.FinMap as finmap
 use Rattle.std.specs.Fmt.{digits}
@@ -88,17 +88,16 @@ kind-named id c os e = ap (option_map (λ (content : Content). content.kind)) e
 
 -- ---- what is written
 
+-- the letters come after the marks
+letters : (x : ℕ) → x < 97 → All (λ b. b ≢ x) (codes "hello")
+letters x low = All-from_recursion (λ b. b ≢ x) (codes "hello")
+    (λ e. omega arith, (λ e. omega arith, (λ e. omega arith, (λ e. omega arith, (λ e. omega arith, tt)))))
+
 hello_is : IsEntryName (codes "hello")
 hello_is = record {
   not_empty = λ e. cc e;
-  no_nul = All-from_recursion (λ b. b ≢ 0) (codes "hello") (
-    λ e. omega arith,
-    (λ e. omega arith, (λ e. omega arith, (λ e. omega arith, (λ e. omega arith, tt)))),
-  );
-  no_slash = All-from_recursion (λ b. b ≢ 47) (codes "hello") (
-    λ e. omega arith,
-    (λ e. omega arith, (λ e. omega arith, (λ e. omega arith, (λ e. omega arith, tt)))),
-  );
+  no_nul = letters 0 (omega arith);
+  no_slash = letters 47 (omega arith);
   not_dot = λ e. cc e;
   not_dot_dot = λ e. cc e;
 }

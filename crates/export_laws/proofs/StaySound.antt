@@ -10,10 +10,10 @@ use Rattle.stream_parts.specs.declared.fault.Fault.{Fault}
 use Rattle.import_session.specs.Meaning.{after_act}
 use Rattle.import_session.specs.Sound.{IsSound}
 use Rattle.stream_commands.specs.Workspace.{Effect, Workspace, opened, quiet}
-use Rattle.import_session.proofs.SoundEnds.{ended_sound}
+use Rattle.import_session.proofs.SoundEnds.{ended_sound, stream_keeps}
 use Rattle.session_laws.proofs.SoundLemmas.{act_keeps, empty_is_sound, new_is_sound}
 use Rattle.export_laws.specs.Leaving.{Leaves, nothing, first_act}
-use Rattle.export_laws.specs.Told.{Told, workspace_of}
+use Rattle.export_laws.specs.Told.{Told, stream_told, workspace_of}
 use Rattle.export_laws.specs.Whole.{nothing_there}
 use Rattle.export_laws.proofs.StayWell.{AreWell}
 
@@ -41,13 +41,6 @@ opened-sound digest = new_is_sound digest nothing_there (empty_is_sound digest)
 pub head-sound : (digest : List ℕ → List ℕ) (told : Told) (old new : Option (List ℕ))
     → IfSome new IsShortRefName → IsSound digest (workspace_of old told)
     → IsSound digest (workspace_of new told)
-head-sound digest told old new named sound = record {
-  objects = sound.objects;
-  trees = sound.trees;
-  refs = sound.refs;
-  next_head = named;
-  marks = sound.marks;
-  branches = sound.branches;
-  tags = sound.tags;
-  command = sound.command;
-}
+head-sound digest told old new named sound =
+    stream_keeps digest (workspace_of old told) sound (stream_told new told) named sound.marks
+    sound.branches sound.tags sound.command

@@ -29,9 +29,9 @@ FitsStream kind.Tree bytes = Unit {0}
 FitsStream kind.Commit bytes = CommitFits (commit_read bytes)
 FitsStream kind.Tag bytes = FitsTag (tag_read bytes)
 
--- What the limits ask of a repository that is to be copied: each line and each data of its export
--- fits into a stream, its refs are few enough for an export, and they reach no more tags than may
--- wait for one checkpoint.
+-- What the limits ask of a repository that is to be copied: each line and each data that an export
+-- has for an object fits into a stream, whether a ref reaches the object or not; its refs are few
+-- enough for an export, and they reach no more tags than may wait for one checkpoint.
 pub record CanBeCopied (repository : Repository) : Type 0 where
   pub fits : All (λ o. FitsStream o.content.kind o.content.bytes) repository.objects
   pub few_refs : is_exportable repository ≡ true

@@ -4,8 +4,7 @@
 ghost use Rattle.std.specs.Prelude.{ℕ, List};
 ghost use Rattle.git_names.specs.Naming.{AnswersNames, tail_digest};
 ghost use Rattle.import_session.specs.Sound.{IsSoundRepository};
-ghost use Rattle.export_laws.specs.Copies.{CanBeCopied};
-ghost use Rattle.export_laws.specs.Ends.{IsImported};
+ghost use Rattle.export_laws.specs.{Copies.{CanBeCopied}, Ends.{IsImported}};
 ghost use Rattle.export_laws.specs.OneCommit.{AreNamedApart, one_commit};
 
 /// A repository of one commit with one file, on the branch `main`, meets the premises of

@@ -1,33 +1,27 @@
 //! What the acts of exported objects leave when they are carried out one after another, in the
 //! stream of a repository that was empty.
 
-ghost use Rattle.std.specs.Prelude.{◌≡◌, ◌↔◌, ℕ, ◌<◌, ◌≤◌, List, [], ◌∷◌, ◌++◌, length, take};
-ghost use Rattle.std.specs.Prelude.{true, nat_eq, if◌then◌else◌, All, Option, Some, is_some};
-ghost use Rattle.std.specs.FinMap as finmap;
+ghost use Rattle.std.specs.Prelude.{◌≡◌, ◌↔◌, ℕ, ◌<◌, ◌≤◌, List, [], ◌∷◌, ◌++◌, length, take, true};
+ghost use Rattle.std.specs.Prelude.{nat_eq, if◌then◌else◌, All, Option, Some, is_some};
 ghost use Rattle.std.specs.List.{flat_map, list_any, range_with_len};
-ghost use Rattle.git_model.specs.declared.kind.Kind.TheVariants as kind;
-ghost use Rattle.git_model.specs.Content.{content_from};
-ghost use Rattle.git_model.specs.GoodRepository.{AreObjects, AreRefs};
-ghost use Rattle.git_model.specs.Reach.{is_referred_to};
-ghost use Rattle.git_model.specs.References.{kind_named, object_at};
+ghost use Rattle.git_model.specs.{Content.{content_from}, GoodRepository.{AreObjects, AreRefs}};
+ghost use Rattle.git_model.specs.{Reach.{is_referred_to}, References.{kind_named, object_at}};
 ghost use Rattle.git_model.specs.Repository.{Object, Repository, object_named};
 ghost use Rattle.git_model.specs.StoredPath.{entries_of};
 ghost use Rattle.git_names.specs.Naming.{AnswersNames};
 ghost use Rattle.tenant_tables.specs.Sums.{TreesFit};
-ghost use Rattle.file_maps.specs.FileMap.{AreFiles, FileMap, listed};
-ghost use Rattle.file_maps.specs.GoodTrees.{IsRepository};
+ghost use Rattle.file_maps.specs.{FileMap.{AreFiles, FileMap, listed}, GoodTrees.{IsRepository}};
 ghost use Rattle.export_text.specs.Reached.{is_exportable, reached_tags};
 ghost use Rattle.import_session.specs.Sound.{IsSound, IsSoundRepository};
 ghost use Rattle.stream_parts.specs.Tags.{tag_limit};
 ghost use Rattle.stream_commands.specs.Workspace.{Workspace};
-ghost use Rattle.export_laws.specs.Copies.{CanBeCopied};
-ghost use Rattle.export_laws.specs.Ends.{AreRefsLeft, IsImported};
+ghost use Rattle.export_laws.specs.{Copies.{CanBeCopied}, Ends.{AreRefsLeft, IsImported}};
 ghost use Rattle.export_laws.specs.Order.{AreWhole, HasDirectories, IsTreeAdded, objects_at};
-ghost use Rattle.export_laws.specs.Order.{trees_by, trees_of, with_named};
-ghost use Rattle.export_laws.specs.Putting.{Puts};
-ghost use Rattle.export_laws.specs.Saved.{IsSaved};
+ghost use Rattle.export_laws.specs.{Order.{trees_by, trees_of, with_named}, Putting.{Puts}};
+ghost use Rattle.export_laws.specs.{Saved.{IsSaved}, Whole.{AreSaved}};
 ghost use Rattle.export_laws.specs.Told.{AreTold, IsToldNext, Told, workspace_of};
-ghost use Rattle.export_laws.specs.Whole.{AreSaved};
+ghost use Rattle.std.specs.FinMap as finmap;
+ghost use Rattle.git_model.specs.declared.kind.Kind.TheVariants as kind;
 
 /// The two definitions of a good repository agree: file_maps asks that each tree lists the files of
 /// a branch, and a session that the sums of each tree are within the limits.
@@ -120,9 +114,9 @@ pub fn refs_are_left()
 /// come right before it, unless they came earlier, each after those of its directories
 /// (`copied_objects`).
 ///
-/// The premises: the repository is sound, as every repository is that a stream leaves; no line and
-/// no data of its export is longer than a stream may have them; its refs are few enough for an
-/// export; and they reach at most 65,536 tags.
+/// The premises: the repository is sound, as every repository is that a stream leaves; each of its
+/// objects, reached by a ref or not, fits into a stream; its refs are few enough for an export; and
+/// they reach at most 65,536 tags.
 pub fn exports_are_imported()
     ensures { (digest : List ℕ → List ℕ) → AnswersNames digest → (repository : Repository)
         → IsSoundRepository digest repository → CanBeCopied repository

@@ -209,26 +209,29 @@ module _ (os : List Object) (few : length os ≤ objects_limit) where
   committer-says now mark ident is =
       header-says (λ i. CommitAct (Committer i)) mark (ident-read ident is)
 
-  -- The lines up to a commit's message, where it may stand.
-  record Ready (now : Open) (items : List Item) (acts : List Done) (mark : Option ℕ) : Type 0 where
+  -- The lines up to a message, where it may stand.
+  record Ready (what : Opened) (after : List Term) (now : Open) (items : List Item) (acts : List Done) (mark : Option ℕ) : Type 0 where
     left : List Term
-    stands : fit part.Data left ≡ Stands from_left
-    asked : Asks now items acts (under_way opened.Commit mark left)
+    stands : fit part.Data left ≡ Stands after
+    asked : Asks now items acts (under_way what mark left)
+
+  -- A line before the message, which may be left out.
+  line-ready : (what : Opened) (mark : Option ℕ) (after none some : List Term) (word : List ℕ) (act : List ℕ → Act)
+      (IsText : List ℕ → Type 0) → fit part.Data none ≡ Stands after → fit part.Data some ≡ Stands after
+      → ((text : List ℕ) → IsText text → Gives (under_way what mark none) (Line (word ++ text)) (asks (act text)) (under_way what mark some))
+      → (text : Option (List ℕ)) → IfSome text IsText
+      → Ready what after (under_way what mark none) (line_if word text) (asks_if act text) mark
+  line-ready what mark after none some word act IsText without with gives None is =
+      record { left = none; stands = without; asked = nothing-asked (under_way what mark none) }
+  line-ready what mark after none some word act IsText without with gives (Some text) is =
+      record { left = some; stands = with; asked = then-more (gives text is) (nothing-asked (under_way what mark some)) }
 
   encoding-ready : (mark : Option ℕ) (encoding : Option (List ℕ)) → IfSome encoding IsEncoding
-      → Ready (under_way opened.Commit mark encoding_left) (line_if (codes "encoding ") encoding) (asks_if encoding_act encoding) mark
-  encoding-ready mark None is = record {
-    left = encoding_left;
-    stands = refl;
-    asked = nothing-asked (under_way opened.Commit mark encoding_left);
-  }
-  encoding-ready mark (Some text) is = record {
-    left = message_left;
-    stands = refl;
-    asked = then-more (inside (under_way opened.Commit mark encoding_left) (codes "encoding " ++ text) (part.Header header.Encoding) message_left (effect mark (CommitAct (Encoding text))) (unfold part_by_word in refl) refl
-        (header-says encoding_act mark (encoding-read text is)))
-        (nothing-asked (under_way opened.Commit mark message_left));
-  }
+      → Ready opened.Commit from_left (under_way opened.Commit mark encoding_left) (line_if (codes "encoding ") encoding) (asks_if encoding_act encoding) mark
+  encoding-ready mark =
+      line-ready opened.Commit mark from_left encoding_left message_left (codes "encoding ") encoding_act IsEncoding refl refl
+      (λ text is. inside (under_way opened.Commit mark encoding_left) (codes "encoding " ++ text) (part.Header header.Encoding) message_left (effect mark (CommitAct (Encoding text))) (unfold part_by_word in refl) refl
+      (header-says encoding_act mark (encoding-read text is)))
 
   module _ (id : List ℕ) (c : Commit) (can : CanWriteCommit c) where
     abbrev the_mark : Option ℕ
@@ -242,7 +245,7 @@ module _ (os : List Object) (few : length os ≤ objects_limit) where
     abbrev header_acts : List Done
     header_acts = asks Wait ∷ asks (CommitAct (Author c.author)) ∷ asks (CommitAct (Committer c.committer)) ∷ asks_if encoding_act c.encoding
 
-    header-ready : Ready (under_way opened.Commit None commit_left) header_items header_acts the_mark
+    header-ready : Ready opened.Commit from_left (under_way opened.Commit None commit_left) header_items header_acts the_mark
     header-ready = let ready = encoding-ready the_mark c.encoding can.encoding in record {
       left = ready.left;
       stands = ready.stands;
@@ -261,7 +264,7 @@ module _ (os : List Object) (few : length os ≤ objects_limit) where
         (ap (λ (r : Result (List ℕ) Fault). read r (λ x. Ok (CommitAct (Begin x)))) scratch-read)
 
     head-ready : (late : Bool) (parents : List (List ℕ))
-        → Ready (idle late) (fresh_branch parents ++ Line (codes "commit " ++ scratch) ∷ header_items) (fresh_acts parents ++ asks (CommitAct (Begin scratch)) ∷ header_acts) the_mark
+        → Ready opened.Commit from_left (idle late) (fresh_branch parents ++ Line (codes "commit " ++ scratch) ∷ header_items) (fresh_acts parents ++ asks (CommitAct (Begin scratch)) ∷ header_acts) the_mark
     head-ready late [] = let ready = header-ready in record {
       left = ready.left;
       stands = ready.stands;
@@ -343,25 +346,12 @@ module _ (os : List Object) (few : length os ≤ objects_limit) where
 
   -- ---- tags
 
-  record Tagging (mark : Option ℕ) (items : List Item) (acts : List Done) : Type 0 where
-    left : List Term
-    stands : fit part.Data left ≡ Stands []
-    asked : Asks (under_way opened.Tag mark tagger_left) items acts (under_way opened.Tag mark left)
-
-  tagger-asked : (mark : Option ℕ) (tagger : Option (List ℕ)) → IfSome tagger IsWrittenIdent
-      → Tagging mark (line_if (codes "tagger ") tagger) (asks_if tagger_act tagger)
-  tagger-asked mark None is = record {
-    left = tagger_left;
-    stands = refl;
-    asked = nothing-asked (under_way opened.Tag mark tagger_left);
-  }
-  tagger-asked mark (Some ident) is = record {
-    left = tag_data_left;
-    stands = refl;
-    asked = then-more (inside (under_way opened.Tag mark tagger_left) (codes "tagger " ++ ident) (part.Header header.Tagger) tag_data_left (effect mark (ObjectAct (Tagger ident))) (unfold part_by_word in refl) refl
-        (header-says tagger_act mark (ident-read ident is)))
-        (nothing-asked (under_way opened.Tag mark tag_data_left));
-  }
+  tagger-ready : (mark : Option ℕ) (tagger : Option (List ℕ)) → IfSome tagger IsWrittenIdent
+      → Ready opened.Tag [] (under_way opened.Tag mark tagger_left) (line_if (codes "tagger ") tagger) (asks_if tagger_act tagger) mark
+  tagger-ready mark =
+      line-ready opened.Tag mark [] tagger_left tag_data_left (codes "tagger ") tagger_act IsWrittenIdent refl refl
+      (λ text is. inside (under_way opened.Tag mark tagger_left) (codes "tagger " ++ text) (part.Header header.Tagger) tag_data_left (effect mark (ObjectAct (Tagger text))) (unfold part_by_word in refl) refl
+      (header-says tagger_act mark (ident-read text is)))
 
   target-asked : (now : Open) (front : List Item) (acts : List Done) (mark : Option ℕ) (left : List Term) (t : Tag)
       → Asks now front acts (under_way opened.Tag mark left) → fit (part.CommitIsh commit_ish.From) left ≡ Stands tagger_left
@@ -369,7 +359,7 @@ module _ (os : List Object) (few : length os ≤ objects_limit) where
       → Asks now (front ++ marked os (codes "from ") t.target ∷ [] ++ line_if (codes "tagger ") t.tagger ++ Data t.message ∷ [])
       (acts ++ asks (ObjectAct (TagTarget (Marked (number_of os t.target)))) ∷ [] ++ asks_if tagger_act t.tagger ++ asks (ObjectAct (TagCommand mark t.message)) ∷ []) (idle true)
   target-asked now front acts mark left t begun stands can =
-      let tagger = tagger-asked mark t.tagger can.tagger in
+      let tagger = tagger-ready mark t.tagger can.tagger in
       and-then (and-then (and-then begun
       (then-more (inside (under_way opened.Tag mark left) (codes "from " ++ mark_text os t.target) (part.CommitIsh commit_ish.From) tagger_left (effect mark (from_act opened.Tag (Marked (number_of os t.target)))) (unfold part_by_word in refl) stands (from-says opened.Tag mark t.target))
       (nothing-asked (under_way opened.Tag mark tagger_left))))

@@ -22,7 +22,7 @@ one-more os first old new ids more id grown before later =
 
 -- ---- what entries refer to
 
-pub entry-names : List entry.TreeEntry → List (List ℕ)
+abbrev pub entry-names : List entry.TreeEntry → List (List ℕ)
 entry-names es = names_in (tree_references (entries_of es))
 
 names-append : (xs ys : List TreeEntry)

@@ -12,7 +12,7 @@ use Rattle.git_model.specs.GoodRepository.{AreObjects, IsObject, IsValid, Stands
 use Rattle.git_model.proofs.Places.{stands_at, at_place}
 use Rattle.commit_walk.proofs.CommitsAt.{object_told}
 use Rattle.commit_walk.proofs.Named.{there}
-use Rattle.export_text.specs.Marking.{marked, names_in}
+use Rattle.export_text.specs.Marking.{names_in}
 
 pub record IsAt (os : List Object) (place : ℕ) (id : List ℕ) (k : Kind) (bytes : List ℕ) : Type 0 where
   pub object : object_at place os ≡ record { id = id; content = content_from k bytes }
@@ -53,11 +53,7 @@ pub parent_names : (ps : List (List ℕ)) → names_in (map (reference kind.Comm
 parent_names [] = refl
 parent_names (p ∷ ps) = ap (λ rest. p ∷ rest) (parent_names ps)
 
-pub commit-marked : (os : List Object) (first mid last : List Bool) (c : Commit)
-    (contents : List ℕ) (parents : List (List ℕ)) → c ≡ commit_read contents
-    → mid ≡ marked os first (c.tree ∷ []) → parents ≡ c.parents → last ≡ marked os mid parents
-    → last ≡ marked os first (names_in (references_of kind.Commit contents))
-commit-marked os first mid last c contents parents is tree all next =
-    next ∙ ap (λ fs. marked os fs parents) tree
-    ∙ ap (λ ps. marked os first (c.tree ∷ ps)) (all ∙ sym (parent_names c.parents))
-    ∙ ap (λ (x : Commit). marked os first (names_in (commit_references x))) is
+pub commit-names : (c : Commit) (contents : List ℕ) → c ≡ commit_read contents
+    → c.tree ∷ c.parents ≡ names_in (references_of kind.Commit contents)
+commit-names c contents is =
+    ap (λ ps. c.tree ∷ ps) (sym (parent_names c.parents)) ∙ ap (λ (x : Commit). names_in (commit_references x)) is

@@ -1,14 +1,13 @@
 //! Commits in a stream: git-fast-import(1), `commit`.
 
-ghost use Rattle.std.specs.Prelude.{◌≡◌, ◌++◌, [], ◌∷◌, length, map, take, Some, OnOk, codes};
+ghost use Rattle.std.specs.Prelude.{◌≡◌, ◌++◌, [], length, map, take, Some, OnOk, codes};
 ghost use Rattle.git_model.specs.Commit.{Commit, CanWriteCommit, commit_contents};
-ghost use Rattle.git_model.specs.CommitReading.{commit_read};
-ghost use Rattle.git_model.specs.References.{kind_named};
-ghost use Rattle.git_model.specs.declared.kind.Kind.TheVariants as kind;
+ghost use Rattle.git_model.specs.{CommitReading.{commit_read}, References.{kind_named}};
 ghost use Rattle.git_objects.specs.Parts.{commit_of};
-ghost use Rattle.export_text.specs.ItemText.{items_text};
-ghost use Rattle.export_text.specs.ExportItems.{commit_head, commit_items, fresh_branch, marked, parent_items};
+ghost use Rattle.export_text.specs.{ItemText.{items_text}, ExportItems.{parent_items}};
+ghost use Rattle.export_text.specs.ExportItems.{commit_head, commit_items, fresh_branch, marked};
 ghost use Rattle.export_text.specs.Lines.{AreTold, WhereTold};
+ghost use Rattle.git_model.specs.declared.kind.Kind.TheVariants as kind;
 
 use crate::file_text::append_all_files;
 use crate::item_text::{append_blank, append_data, append_line, append_line_if};

@@ -1,11 +1,9 @@
 //! A repository as a stream: git-fast-export(1).
 
 ghost use Rattle.std.specs.Prelude.{◌≡◌, ◌++◌, ◌+◌, nat_le, length, take, IfOk, OnOk, OnErr};
-ghost use Rattle.git_model.specs.Limits.{export_refs_limit};
-ghost use Rattle.git_model.specs.GoodRepository.{AreObjects};
+ghost use Rattle.git_model.specs.{Limits.{export_refs_limit}, GoodRepository.{AreObjects}};
 ghost use Rattle.git_model.specs.RefStore.{listed_refs};
-ghost use Rattle.export_text.specs.ItemText.{items_text};
-ghost use Rattle.export_text.specs.Reached.{is_exportable, tag_refs};
+ghost use Rattle.export_text.specs.{ItemText.{items_text}, Reached.{is_exportable, tag_refs}};
 ghost use Rattle.export_text.specs.Marking.{WhereReached};
 ghost use Rattle.export_text.specs.Export.{Exports, head_items, opening_items, saving_items};
 

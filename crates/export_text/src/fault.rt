@@ -2,7 +2,7 @@
 
 ghost use Rattle.std.specs.Prelude.{◌≡◌};
 ghost use Rattle.export_text.specs.Faults.{code_of};
-ghost use Rattle.export_text.specs.declared.fault.Fault.TheVariants.{Memory as OutOfMemory};
+ghost use Rattle.export_text.specs.declared.fault.Fault.TheVariants as fault;
 
 use git_objects::Memory;
 use thiserror::Error;
@@ -12,18 +12,10 @@ use thiserror::Error;
 pub enum Fault {
     /// The refs, with those that importing the reached tags sets, are more than 65,535: 25.
     #[error("too many refs")]
-    Limit,
+    Limit = 25,
     /// An allocation failed, 90.
     #[error("out of memory")]
-    Memory,
-}
-
-impl From<Memory> for Fault {
-    ghost from_gives = { λ refusal e. e ≡ OutOfMemory };
-
-    fn from(_: Memory) -> Fault {
-        Fault::Memory
-    }
+    Memory = 90,
 }
 
 impl Fault {
@@ -31,9 +23,14 @@ impl Fault {
     pub fn code(self) -> u16
         ensures { result ≡ code_of self }
     {
-        match self {
-            Fault::Limit => 25,
-            Fault::Memory => 90,
-        }
+        self as u16
+    }
+}
+
+impl From<Memory> for Fault {
+    ghost from_gives = { λ _ refused. refused ≡ fault.Memory };
+
+    fn from(_refused: Memory) -> Fault {
+        Fault::Memory
     }
 }

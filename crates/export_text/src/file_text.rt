@@ -1,18 +1,17 @@
 //! The files of a commit in a stream: git-fast-import(1), `M` and `deleteall`.
 
 ghost use Rattle.std.specs.Prelude.{◌≡◌, ◌++◌, All, List, length, take, IfOk, OnOk, Some};
-ghost use Rattle.git_model.specs.declared.kind.Kind.TheVariants as kind;
-ghost use Rattle.git_model.specs.GoodRepository.{AreObjects, IsValid};
-ghost use Rattle.git_model.specs.References.{kind_named};
-ghost use Rattle.git_model.specs.Repository.{Object};
-ghost use Rattle.git_model.specs.StoredPath.{entries_in as stored_entries_in, entries_of as stored_entries};
-ghost use Rattle.git_model.specs.Tree.{TreeEntry as Entry, CanWriteEntry, CanWriteTree, tree_contents};
-ghost use Rattle.git_model.specs.TreeReading.{tree_read};
+ghost use Rattle.git_model.specs.{GoodRepository.{AreObjects, IsValid}, References.{kind_named}};
+ghost use Rattle.git_model.specs.{Repository.{Object}, StoredPath.{entries_of as stored_entries}};
+ghost use Rattle.git_model.specs.StoredPath.{entries_in as stored_entries_in};
+ghost use Rattle.git_model.specs.Tree.{TreeEntry as Entry, CanWriteEntry, CanWriteTree};
+ghost use Rattle.git_model.specs.{Tree.{tree_contents}, TreeReading.{tree_read}};
 ghost use Rattle.git_objects.specs.Parts.{entry_of, entries_of};
 ghost use Rattle.git_paths.specs.Quoting.{quoted};
-ghost use Rattle.export_text.specs.ItemText.{items_text};
-ghost use Rattle.export_text.specs.ExportItems.{dataref_text, file_items};
-ghost use Rattle.export_text.specs.Lines.{AreTold, WhereTold, file_line, lines_within, prefix_below};
+ghost use Rattle.export_text.specs.{ItemText.{items_text}, ExportItems.{dataref_text, file_items}};
+ghost use Rattle.export_text.specs.Lines.{AreTold, WhereTold, file_line, lines_within};
+ghost use Rattle.export_text.specs.Lines.{prefix_below};
+ghost use Rattle.git_model.specs.declared.kind.Kind.TheVariants as kind;
 
 use crate::item_text::append_line;
 use crate::mark_text::append_mark;

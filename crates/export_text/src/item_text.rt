@@ -3,8 +3,7 @@
 ghost use Rattle.std.specs.Prelude.{◌≡◌, ◌++◌, [], ◌∷◌, length, take, OnOk};
 ghost use Rattle.std.specs.Option.{option_copied};
 ghost use Rattle.stream_lex.specs.Items.{Line, Data, Blank};
-ghost use Rattle.export_text.specs.ItemText.{items_text};
-ghost use Rattle.export_text.specs.ExportItems.{line_if};
+ghost use Rattle.export_text.specs.{ItemText.{items_text}, ExportItems.{line_if}};
 
 use git_objects::{Memory, append_parts};
 use itoa::Buffer;

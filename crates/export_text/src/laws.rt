@@ -1,14 +1,10 @@
 //! Laws of exports: functions over the definitions alone, which run nothing.
 
 ghost use Rattle.std.specs.Prelude.{◌≡◌, ℕ, [], false, All, List};
-ghost use Rattle.git_model.specs.GoodRepository.{AreObjects};
-ghost use Rattle.git_model.specs.Repository.{Repository};
-ghost use Rattle.stream_lex.specs.Items.{Item, Rest};
-ghost use Rattle.stream_lex.specs.Reading.{reading};
-ghost use Rattle.export_text.specs.Export.{export_items, export_text};
-ghost use Rattle.export_text.specs.ExportActs.{AsksFor};
-ghost use Rattle.export_text.specs.ItemText.{CanWriteItem, items_text};
-ghost use Rattle.export_text.specs.Limits.{CanExport};
+ghost use Rattle.git_model.specs.{GoodRepository.{AreObjects}, Repository.{Repository}};
+ghost use Rattle.stream_lex.specs.{Items.{Item, Rest}, Reading.{reading}};
+ghost use Rattle.export_text.specs.{Export.{export_items, export_text}, ExportActs.{AsksFor}};
+ghost use Rattle.export_text.specs.{ItemText.{CanWriteItem, items_text}, Limits.{CanExport}};
 
 /// Reading the text of items that can be written gives these items, with nothing left over.
 pub fn items_are_read_back()

@@ -15,7 +15,7 @@ mod marking;
 mod object_text;
 pub mod reached;
 mod ref_text;
-mod referring;
+pub mod referring;
 mod tag_refs;
 mod tag_text;
 mod told;

@@ -1,14 +1,11 @@
 //! Objects in a stream, each with its mark.
 
 ghost use Rattle.std.specs.Prelude.{◌≡◌, ◌++◌, ◌<◌, ℕ, All, length, take, OnOk};
-ghost use Rattle.git_model.specs.GoodRepository.{IsValid, StandsBefore};
+ghost use Rattle.git_model.specs.{GoodRepository.{IsValid, StandsBefore}, RefStore.{RefStore}};
 ghost use Rattle.git_model.specs.References.{object_at, references_of};
-ghost use Rattle.git_model.specs.RefStore.{RefStore};
-ghost use Rattle.export_text.specs.ItemText.{items_text};
-ghost use Rattle.export_text.specs.Export.{object_items};
+ghost use Rattle.export_text.specs.{ItemText.{items_text}, Export.{object_items}};
 ghost use Rattle.export_text.specs.ExportItems.{blob_items, items_of, items_of_object};
-ghost use Rattle.export_text.specs.Lines.{AreTold, WhereTold};
-ghost use Rattle.export_text.specs.Marking.{WhereReached};
+ghost use Rattle.export_text.specs.{Lines.{AreTold, WhereTold}, Marking.{WhereReached}};
 
 use crate::commit_text::append_commit;
 use crate::item_text::{append_data, append_line};

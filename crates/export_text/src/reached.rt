@@ -4,12 +4,11 @@
 //! and reads each reached object once.
 
 ghost use Rattle.std.specs.Prelude.{◌≡◌, length, map, replicate, false, IfOk, OnOk};
-ghost use Rattle.git_model.specs.GoodRepository.{AreObjects};
-ghost use Rattle.git_model.specs.RefStore.{listed_refs};
+ghost use Rattle.git_model.specs.{GoodRepository.{AreObjects}, RefStore.{listed_refs}};
 ghost use Rattle.export_text.specs.Marking.{marked, reached_flags};
 
-use crate::marking::mark;
-use crate::referring::mark_references;
+use crate::marking::{mark, mark_all};
+use crate::referring::referred_by;
 use git_objects::{Memory, Naming};
 use std::alloc::Global;
 use tenant_refs::Refs;
@@ -43,7 +42,8 @@ fn walk<N: Naming>(
     let mut place = objects.len();
     while place > 0 {
         if flags[place - 1] {
-            mark_references(alloc, objects, place - 1, flags)?;
+            let ids = referred_by(alloc, objects, place - 1)?;
+            mark_all(objects, &ids, flags);
         }
         place -= 1;
     }

@@ -2,12 +2,10 @@
 
 ghost use Rattle.std.specs.Prelude.{◌≡◌, ◌++◌, [], ◌∷◌, List, filter, length, take, codes, OnOk};
 ghost use Rattle.std.specs.List.{flat_map};
-ghost use Rattle.git_model.specs.GoodRepository.{AreObjects, IsValid};
-ghost use Rattle.git_model.specs.RefStore.{listed_refs};
+ghost use Rattle.git_model.specs.{GoodRepository.{AreObjects, IsValid}, RefStore.{listed_refs}};
 ghost use Rattle.git_model.specs.Repository.{Object};
 ghost use Rattle.stream_lex.specs.Items.{Line, Blank};
-ghost use Rattle.export_text.specs.ItemText.{items_text};
-ghost use Rattle.export_text.specs.Reached.{is_missing};
+ghost use Rattle.export_text.specs.{ItemText.{items_text}, Reached.{is_missing}};
 ghost use Rattle.export_text.specs.Export.{items_of_ref, ref_items, removal_items};
 ghost use Rattle.export_text.specs.ExportItems.{marked};
 

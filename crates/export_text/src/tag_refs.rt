@@ -1,15 +1,12 @@
 //! The refs that the import of the reached tags sets: git-fast-import(1), `tag`.
 
-ghost use Rattle.std.specs.Prelude.{◌≡◌, ◌++◌, ◌≤◌, ◌<◌, [], ◌∷◌, ℕ, List, length, map, filter, take, codes, IfOk, OnOk};
-ghost use Rattle.git_model.specs.Limits.{ref_name_limit};
-ghost use Rattle.git_model.specs.GoodRepository.{AreObjects, IsTag, IsValid};
-ghost use Rattle.git_model.specs.References.{object_at};
-ghost use Rattle.git_model.specs.Content.{content_from};
-ghost use Rattle.git_model.specs.RefStore.{RefStore};
-ghost use Rattle.git_model.specs.Repository.{Object};
-ghost use Rattle.git_names.specs.StoredName.{NamesRef};
-ghost use Rattle.git_model.specs.Tag.{Tag};
+ghost use Rattle.std.specs.Prelude.{◌≡◌, ◌++◌, ◌≤◌, ◌<◌, [], ◌∷◌, ℕ, List, length, map, filter};
+ghost use Rattle.std.specs.Prelude.{IfOk, OnOk};
+ghost use Rattle.git_model.specs.{Limits.{ref_name_limit}, References.{object_at}, Tag.{Tag}};
+ghost use Rattle.git_model.specs.{GoodRepository.{AreObjects, IsTag, IsValid}, RefStore.{RefStore}};
+ghost use Rattle.git_model.specs.{Content.{content_from}, Repository.{Object}};
 ghost use Rattle.git_model.specs.TagReading.{tag_read};
+ghost use Rattle.git_names.specs.StoredName.{NamesRef};
 ghost use Rattle.export_text.specs.Marking.{WhereReached};
 ghost use Rattle.export_text.specs.Reached.{is_tag, reached_tags, ref_of_tag, tag_ref, tag_refs};
 

@@ -1,11 +1,9 @@
 //! Tags in a stream: git-fast-import(1), `tag`.
 
 ghost use Rattle.std.specs.Prelude.{◌≡◌, ◌++◌, length, take, OnOk, Option};
-ghost use Rattle.git_model.specs.Tag.{Tag, CanWriteTag, tag_contents};
-ghost use Rattle.git_model.specs.TagReading.{tag_read};
+ghost use Rattle.git_model.specs.{Tag.{Tag, CanWriteTag, tag_contents}, TagReading.{tag_read}};
 ghost use Rattle.git_objects.specs.Parts.{tag_of};
-ghost use Rattle.export_text.specs.ItemText.{items_text};
-ghost use Rattle.export_text.specs.ExportItems.{tag_items};
+ghost use Rattle.export_text.specs.{ItemText.{items_text}, ExportItems.{tag_items}};
 
 use crate::item_text::{append_data, append_line, append_line_if};
 use crate::mark_text::{append_mark_if, append_marked};

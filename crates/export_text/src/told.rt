@@ -3,7 +3,8 @@
 //! Most directories of a commit are the same as in the commit before it, at the same path. The
 //! lines of their files were written then, and are copied.
 
-ghost use Rattle.std.specs.Prelude.{◌≡◌, ◌↔◌, ◌++◌, ◌≤◌, ◌<◌, ℕ, List, IsTrue, IfOk, IfSome, OnOk, length, slice_range, take, false, true};
+ghost use Rattle.std.specs.Prelude.{◌≡◌, ◌↔◌, ◌++◌, ◌≤◌, ◌<◌, ℕ, List, IsTrue, IfOk, IfSome, OnOk};
+ghost use Rattle.std.specs.Prelude.{length, slice_range, take, false, true};
 ghost use Rattle.git_model.specs.Repository.{Object};
 ghost use Rattle.export_text.specs.Lines.{AreTold, IsTold, lines_within};
 

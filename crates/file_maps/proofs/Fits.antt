@@ -1,5 +1,5 @@
 -- What groups are: files, or directories whose files are storable; and the tree that they make.
-use Rattle.std.proofs.Common.{◌≡◌, ◌≢◌, ℕ, suc, ◌<◌, ◌≤◌, true, [], ◌∷◌, ◌++◌, length, refl, sym}
+use Rattle.std.proofs.Common.{◌≡◌, ◌≢◌, ℕ, suc, ◌<◌, ◌≤◌, true, [], ◌∷◌, length, refl, sym}
 use Rattle.std.proofs.Common.{ap, ◌∙◌, subst, arith}
 use Rattle.std.specs.List.{AllByRecursion}
 use Rattle.std.specs.Ordering.{nat_cmp, ordering_then}
@@ -22,7 +22,7 @@ use Rattle.file_maps.specs.FileMap.{Path, Listed, is_apart, ArePairwiseApart, Is
 use Rattle.file_maps.specs.Trees.{Groups, grouped, add_path, add_file, depth_of}
 use Rattle.file_maps.specs.Storable.{AreInOrder, AreStorable}
 use Rattle.file_maps.proofs.Apart.{all-weaker, is_apart-below}
-use Rattle.file_maps.proofs.Rising.{Bytes, below, OfFirst, grouped-first}
+use Rattle.file_maps.proofs.Rising.{Bytes, below, OfFirst, grouped-first, same_front}
 
 abbrev pub File : Type 0
 File = Path × Entry
@@ -125,13 +125,6 @@ depth_from (f ∷ fs) n h some = let rest = depth_from fs n h.1 some in let one 
 -- files in order that stand apart, one before another
 abbrev pub InTurn : File → File → Type 0
 InTurn f g = below (joined f.0) (joined g.0) × (is_apart f.0 g.0 ≡ true)
-
-same_front : (c a b : Bytes) → slice_cmp nat_cmp (c ++ a) (c ++ b) ≡ slice_cmp nat_cmp a b
-same_front [] a b = refl
-same_front (x ∷ c) a b =
-    ap (λ (r : Ordering). ordering_then r (slice_cmp nat_cmp (c ++ a) (c ++ b)))
-    (tied_itself nat_cmp_total x)
-    ∙ same_front c a b
 
 pub tails_below : (c : Bytes) (q r : Path) → is_apart q r ≡ true
     → below (joined (c ∷ q)) (joined (c ∷ r)) → below (joined q) (joined r)

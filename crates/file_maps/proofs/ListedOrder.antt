@@ -29,7 +29,7 @@ use Rattle.file_maps.specs.StoredTree.{Lists, nothing, first_file, first_directo
 use Rattle.file_maps.proofs.Apart.{all-map, all-weaker}
 use Rattle.file_maps.proofs.Listing.{Distinct, distinct, IsSound, tree-sound, all-append}
 use Rattle.file_maps.proofs.Maps.{empty-of}
-use Rattle.file_maps.proofs.Rising.{Bytes, below, mark}
+use Rattle.file_maps.proofs.Rising.{Bytes, below, mark, same_front}
 
 abbrev cmp : Bytes → Bytes → Ordering
 cmp a b = slice_cmp nat_cmp a b
@@ -184,7 +184,7 @@ over e key is (d ∷ es) a b c = (
   over e key is es a.1 b.1 c.1,
 )
 
-order-append : (xs ys : Listed) → AreInOrder xs
+pub order-append : (xs ys : Listed) → AreInOrder xs
     → AllByRecursion (λ f. AllByRecursion (λ g. below (joined f.0) (joined g.0)) ys) xs
     → AreInOrder ys → AreInOrder (xs ++ ys)
 order-append [] ys h across k = k
@@ -195,12 +195,13 @@ order-append (x ∷ xs) ys h across k = (
   order-append xs ys h.1 across.1 k,
 )
 
-same_front : (c a b : Bytes) → slice_cmp nat_cmp (c ++ a) (c ++ b) ≡ slice_cmp nat_cmp a b
-same_front [] a b = refl
-same_front (x ∷ c) a b =
-    ap (λ (r : Ordering). ordering_then r (slice_cmp nat_cmp (c ++ a) (c ++ b)))
-    (tied_itself nat_cmp_total x)
-    ∙ same_front c a b
+abbrev pub IsBelowRoot : Path × Entry → Type 0
+IsBelowRoot f = f.0 ≢ []
+
+pub tree-below : (os : List Object) (id : List ℕ) (fs : Listed) → ListsTree os id fs
+    → AllByRecursion IsBelowRoot fs
+tree-below os id fs t =
+    all-weaker IsSound IsBelowRoot (λ f s. s.below_the_root) fs (tree-sound os id fs t)
 
 front : (c : Bytes) (p q : Path) → p ≢ [] → q ≢ [] → below (joined p) (joined q)
     → below (joined (c ∷ p)) (joined (c ∷ q))
@@ -212,19 +213,19 @@ front c (x ∷ p) (y ∷ q) np nq h =
     (tied_itself nat_cmp_total 47)
     ∙ h
 
-fronts : (c : Bytes) (p : Path) → p ≢ [] → (fs : Listed) → AllByRecursion IsSound fs
+fronts : (c : Bytes) (p : Path) → p ≢ [] → (fs : Listed) → AllByRecursion IsBelowRoot fs
     → AllByRecursion (λ g. below (joined p) (joined g.0)) fs
     → AllByRecursion (λ g. below (joined (c ∷ p)) (joined (c ∷ g.0))) fs
 fronts c p ne [] s h = tt
-fronts c p ne (f ∷ fs) s h = (front c p f.0 ne s.0.below_the_root h.0, fronts c p ne fs s.1 h.1)
+fronts c p ne (f ∷ fs) s h = (front c p f.0 ne s.0 h.0, fronts c p ne fs s.1 h.1)
 
-order-moved : (c : Bytes) (fs : Listed) → AllByRecursion IsSound fs → AreInOrder fs
+pub order-moved : (c : Bytes) (fs : Listed) → AllByRecursion IsBelowRoot fs → AreInOrder fs
     → AreInOrder (moved (c ∷ []) fs)
 order-moved c [] s h = tt
 order-moved c (f ∷ fs) s h = (
   all-map (λ (g : Path × Entry). (c ∷ [] ++ g.0, g.1))
       (λ (g : Path × Entry). below (joined (c ∷ f.0)) (joined g.0)) fs
-      (fronts c f.0 s.0.below_the_root fs s.1 h.0),
+      (fronts c f.0 s.0 fs s.1 h.0),
   order-moved c fs s.1 h.1,
 )
 
@@ -239,18 +240,18 @@ lists-in-order (first_file e es files ne l) d r w = (
   lists-in-order l d.1 r.1 w.1,
 )
 lists-in-order {os} (first_directory e es inside under files is has sub l) d r w =
-    let sound = tree-sound os e.id under (record { direct = inside; tree = has; lists = sub }) in
+    let apart = tree-below os e.id under (record { direct = inside; tree = has; lists = sub }) in
     order-append (moved (e.name ∷ []) under) files
-    (order-moved e.name under sound
+    (order-moved e.name under apart
     (lists-in-order sub (distinct inside has.entries.names_are_distinct)
     (rises inside has.entries.in_order)
     (recursion_from_All CanWriteEntry inside has.entries.entries)))
     (all-map (λ (g : Path × Entry). (e.name ∷ [] ++ g.0, g.1))
     (λ (f : Path × Entry). AllByRecursion (λ g. below (joined f.0) (joined g.0)) files) under
-    (all-weaker IsSound
+    (all-weaker IsBelowRoot
     (λ (g : Path × Entry). AllByRecursion
     (λ (k : Path × Entry). below (joined (e.name ∷ g.0)) (joined k.0)) files)
-    (λ g s. one g.0 s.below_the_root) under sound))
+    (λ g ne. one g.0 ne) under apart))
     (lists-in-order l d.1 r.1 w.1)
   where
     one : (q : Path) → q ≢ []

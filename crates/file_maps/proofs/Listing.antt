@@ -198,25 +198,34 @@ tree-apart os id fs t = lists-apart t.lists (distinct t.direct t.tree.entries.na
 
 -- ---- files that are sound
 
+-- what is so of the file of each entry, and stays so below a directory, is so of all files
+module _ (P : Path × Entry → Type 0)
+    (one : (e : TreeEntry) → CanWriteEntry e → e.mode ≢ mode.Directory → P (file_from e))
+    (more : (e : TreeEntry) → CanWriteEntry e → (g : Path × Entry) → P g → P (e.name ∷ g.0, g.1)) where
+  lists-each : {os : List Object} {es : List TreeEntry} {fs : Listed} → Lists os es fs
+      → AllByRecursion CanWriteEntry es → AllByRecursion P fs
+  lists-each nothing h = tt
+  lists-each (first_file e es files ne l) h = (one e h.0 ne, lists-each l h.1)
+  lists-each (first_directory e es inside below files is has sub l) h =
+      all-append P (moved (e.name ∷ []) below) files
+      (all-map (λ (g : Path × Entry). (e.name ∷ [] ++ g.0, g.1)) P below
+      (all-weaker P (λ (g : Path × Entry). P (e.name ∷ g.0, g.1)) (more e h.0) below
+      (lists-each sub (recursion_from_All CanWriteEntry inside has.entries.entries))))
+      (lists-each l h.1)
+
+  pub tree-each : (os : List Object) (id : List ℕ) (fs : Listed) → ListsTree os id fs
+      → AllByRecursion P fs
+  tree-each os id fs t =
+      lists-each t.lists (recursion_from_All CanWriteEntry t.direct t.tree.entries.entries)
+
 -- A file stands below the root, is no directory, and has an object name.
 pub record IsSound (f : Path × Entry) : Type 0 where
   pub below_the_root : f.0 ≢ []
   pub mode : f.1.mode ≢ mode.Directory
   pub name : IsObjectName f.1.name
 
-lists-sound : {os : List Object} {es : List TreeEntry} {fs : Listed} → Lists os es fs
-    → AllByRecursion CanWriteEntry es → AllByRecursion IsSound fs
-lists-sound nothing h = tt
-lists-sound (first_file e es files ne l) h =
-    (record { below_the_root = λ is. cc is; mode = ne; name = h.0.id }, lists-sound l h.1)
-lists-sound (first_directory e es inside below files is has sub l) h =
-    all-append IsSound (moved (e.name ∷ []) below) files
-    (all-map (λ (g : Path × Entry). (e.name ∷ [] ++ g.0, g.1)) IsSound below
-    (all-weaker IsSound (λ (g : Path × Entry). IsSound (e.name ∷ g.0, g.1)) (λ g s. record { below_the_root = λ is. cc is; mode = s.mode; name = s.name }) below
-    (lists-sound sub (recursion_from_All CanWriteEntry inside has.entries.entries))))
-    (lists-sound l h.1)
-
 pub tree-sound : (os : List Object) (id : List ℕ) (fs : Listed) → ListsTree os id fs
     → AllByRecursion IsSound fs
-tree-sound os id fs t =
-    lists-sound t.lists (recursion_from_All CanWriteEntry t.direct t.tree.entries.entries)
+tree-sound =
+    tree-each IsSound (λ e h ne. record { below_the_root = λ is. cc is; mode = ne; name = h.id })
+    (λ e h g s. record { below_the_root = λ is. cc is; mode = s.mode; name = s.name })

@@ -4,7 +4,7 @@ use Rattle.std.proofs.Common.{subst}
 use Rattle.std.specs.Prelude.{All}
 use Rattle.std.specs.List.{AllByRecursion}
 use Rattle.std.specs.Ordering.{nat_cmp, ordering_then}
-use Rattle.std.specs.Cmp.{ranked}
+use Rattle.std.specs.Cmp.{ranked, nat_cmp_total}
 use Rattle.std.specs.Cmp.Lexicographic.{slice_cmp, nat_list_cmp_total}
 use Rattle.std.specs.declared.cmp.Ordering.{Ordering}
 use Rattle.std.specs.declared.cmp.Ordering.TheVariants.{Less, Equal, Greater}
@@ -27,6 +27,14 @@ Bytes = List ℕ
 
 abbrev pub below : Bytes → Bytes → Type 0
 below a b = slice_cmp nat_cmp a b ≡ Less
+
+-- what follows the same bytes decides
+pub same_front : (c a b : Bytes) → slice_cmp nat_cmp (c ++ a) (c ++ b) ≡ slice_cmp nat_cmp a b
+same_front [] a b = refl
+same_front (x ∷ c) a b =
+    ap (λ (r : Ordering). ordering_then r (slice_cmp nat_cmp (c ++ a) (c ++ b)))
+    (tied_itself nat_cmp_total x)
+    ∙ same_front c a b
 
 -- a slash, where a path goes on
 abbrev pub mark : Path → Bytes

@@ -12,20 +12,18 @@ use Rattle.git_model.specs.declared.file_mode.FileMode.{FileMode}
 use Rattle.git_model.specs.declared.file_mode.FileMode.TheVariants as mode
 use Rattle.git_model.specs.declared.kind.Kind.{Kind}
 use Rattle.git_model.specs.declared.kind.Kind.TheVariants as kind
-use Rattle.git_model.specs.Content.{Content, content_from}
+use Rattle.git_model.specs.Content.{Content}
 use Rattle.git_model.specs.Repository.{Object, object_named}
-use Rattle.git_model.specs.Tree.{TreeEntry, CanWriteTree, tree_contents}
+use Rattle.git_model.specs.Tree.{TreeEntry}
 use Rattle.git_paths.proofs.Cases.{some_is}
 use Rattle.content_pool.specs.Pool.{Cells, content}
 use Rattle.tenant_tables.specs.declared.entry.Entry.{Entry}
 use Rattle.tenant_tables.specs.declared.summary.Summary.{Summary}
-use Rattle.tenant_tables.specs.View.{Entries, entry_named, slot_of, summary_of}
+use Rattle.tenant_tables.specs.View.{Entries, entry_named, summary_of}
 use Rattle.tenant_tables.specs.Objects.{objects}
 use Rattle.tenant_tables.specs.IsBackedBy.{IsBackedBy}
 use Rattle.tenant_tables.specs.Trees as table
 use Rattle.tenant_tables.specs.Trees.{IsSummed, SummedAfter, IsTreeOf, DirectoryStands}
-use Rattle.tenant_tables.proofs.AddLemmas.{found_some}
-use Rattle.tenant_tables.proofs.TreeTexts.{tree_contents-injective}
 use Rattle.tenant_tables.proofs.EntryLemmas.{lookup-take}
 use Rattle.tenant_tables.proofs.SummaryLemmas.{some_of}
 use Rattle.tenant_tables.proofs.HoldLemmas.{object_named-objects}

@@ -71,14 +71,29 @@ module _ (digest : List ℕ → List ℕ) (os : List Object) (good : AreTreesGoo
       absurd (lists-some sub (filled-in e.id inside has) (inside-some e inside h.0 is has) refl)
   lists-some (first_directory e es inside (f ∷ below) files is has sub l) h ne = λ x. cc x
 
-  pub listed-again : {es : List TreeEntry} {fs : Listed} → Lists os es fs → (n : ℕ)
+  -- ---- all trees
+
+  -- a tree is there under its name
+  abbrev pub Held : List TreeEntry → Type 0
+  Held es = HasTree os (tree_name digest es) es
+
+  held : (id : List ℕ) (es ds : List TreeEntry) → HasTree os id es → ds ≡ es → Held ds
+  held id es ds h is =
+      subst Held (sym is) (subst (λ (x : List ℕ). HasTree os x es) (good.named id es h) h)
+
+  -- the groups of what entries list are these entries again, and their trees are there
+  listed-again : {es : List TreeEntry} {fs : Listed} → Lists os es fs → (n : ℕ)
       → depth_of fs ≤ suc n → Distinct es → AllByRecursion (IsFilled os) es
-      → map (direct_of digest n) (grouped fs) ≡ es
-  listed-again nothing n deep d h = refl
+      → (map (direct_of digest n) (grouped fs) ≡ es)
+      × AllByRecursion Held (flat_map (group_trees digest n) (grouped fs))
+  listed-again nothing n deep d h = (refl, tt)
   listed-again (first_file e es files ne l) n deep d h =
-      ap (map (direct_of digest n))
-      (add-other e.name ([], (file_from e).1) (grouped files) (lists-begin e.name l d.0))
-      ∙ ap (λ (r : List TreeEntry). e ∷ r) (listed-again l n (omega arith) d.1 h.1)
+      let rest = listed-again l n (omega arith) d.1 h.1 in
+      let same = add-other e.name ([], (file_from e).1) (grouped files) (lists-begin e.name l d.0) in (
+        ap (map (direct_of digest n)) same ∙ ap (λ (r : List TreeEntry). e ∷ r) rest.0,
+        subst (λ (gs : Groups). AllByRecursion Held (flat_map (group_trees digest n) gs)) (sym same)
+            rest.1,
+      )
   listed-again (first_directory e es inside [] files is has sub l) n deep d h =
       absurd (lists-some sub (filled-in e.id inside has) (inside-some e inside h.0 is has) refl)
   listed-again (first_directory e es inside (([], x) ∷ below) files is has sub l) n deep d h =
@@ -90,66 +105,28 @@ module _ (digest : List ℕ → List ℕ) (os : List Object) (good : AreTreesGoo
   listed-again (first_directory e es inside (((c ∷ q), x) ∷ below) files is has sub l)
       (suc n) deep d h =
       let fs : Listed = ((c ∷ q), x) ∷ below in
-      let within = depth-below e.name fs files (suc n) deep in
-      let inner : entries_within digest (suc n) fs ≡ inside =
-      step digest n fs
-      ∙ listed-again sub n within (distinct inside has.entries.names_are_distinct)
-      (filled-in e.id inside has) in
+      let inner = listed-again sub n (depth-below e.name fs files (suc n) deep)
+      (distinct inside has.entries.names_are_distinct) (filled-in e.id inside has) in
+      let rest = listed-again l (suc n)
+      (depth-later (moved (e.name ∷ []) fs) files (suc (suc n)) deep) d.1 h.1 in
+      let same = moved-grouped e.name ((c ∷ q), x) below files (lists-begin e.name l d.0) in
+      let entries : entries_within digest (suc n) fs ≡ inside = step digest n fs ∙ inner.0 in
       let name : tree_name digest (entries_within digest (suc n) fs) ≡ e.id =
-      ap (tree_name digest) inner ∙ sym (good.named e.id inside has) in
+      ap (tree_name digest) entries ∙ sym (good.named e.id inside has) in
       let here : direct_of digest (suc n) (e.name, fs) ≡ e =
       let back = sym is in λ i. record { mode = back i; name = e.name; id = name i } in
-      ap (map (direct_of digest (suc n)))
-      (moved-grouped e.name ((c ∷ q), x) below files (lists-begin e.name l d.0))
-      ∙ ap (λ (t : TreeEntry). t ∷ map (direct_of digest (suc n)) (grouped files)) here
-      ∙ ap (λ (r : List TreeEntry). e ∷ r)
-      (listed-again l (suc n)
-      (depth-later (moved (e.name ∷ []) fs) files (suc (suc n)) deep) d.1 h.1)
-
-  -- ---- all trees
-
-  -- a tree is there under its name
-  abbrev pub Held : List TreeEntry → Type 0
-  Held es = HasTree os (tree_name digest es) es
-
-  held : (id : List ℕ) (es ds : List TreeEntry) → HasTree os id es → ds ≡ es → Held ds
-  held id es ds h is =
-      subst Held (sym is) (subst (λ (x : List ℕ). HasTree os x es) (good.named id es h) h)
-
-  nested-held : {es : List TreeEntry} {fs : Listed} → Lists os es fs → (n : ℕ)
-      → depth_of fs ≤ suc n → Distinct es → AllByRecursion (IsFilled os) es
-      → AllByRecursion Held (flat_map (group_trees digest n) (grouped fs))
-  nested-held nothing n deep d h = tt
-  nested-held (first_file e es files ne l) n deep d h =
-      subst (λ (gs : Groups). AllByRecursion Held (flat_map (group_trees digest n) gs))
-      (sym (add-other e.name ([], (file_from e).1) (grouped files) (lists-begin e.name l d.0)))
-      (nested-held l n (omega arith) d.1 h.1)
-  nested-held (first_directory e es inside [] files is has sub l) n deep d h =
-      absurd (lists-some sub (filled-in e.id inside has) (inside-some e inside h.0 is has) refl)
-  nested-held (first_directory e es inside (([], x) ∷ below) files is has sub l) n deep d h =
-      absurd ((tree-sound os e.id (([], x) ∷ below)
-      (record { direct = inside; tree = has; lists = sub })).0.below_the_root refl)
-  nested-held
-      (first_directory e es inside (((c ∷ q), x) ∷ below) files is has sub l) zero deep d h =
-      let within = depth-below e.name (((c ∷ q), x) ∷ below) files 0 deep in absurd (omega arith)
-  nested-held (first_directory e es inside (((c ∷ q), x) ∷ below) files is has sub l)
-      (suc n) deep d h =
-      let fs : Listed = ((c ∷ q), x) ∷ below in
-      let within = depth-below e.name fs files (suc n) deep in
-      let names = distinct inside has.entries.names_are_distinct in
-      let full = filled-in e.id inside has in
-      let own : Held (entries_within digest (suc n) fs) = held e.id inside _ has
-      (step digest n fs ∙ listed-again sub n within names full) in
-      let inner : AllByRecursion Held (trees_within digest (suc n) fs) =
+      let trees : AllByRecursion Held (trees_within digest (suc n) fs) =
       subst (AllByRecursion Held) (sym (trees-step digest n fs))
       (all-append Held (flat_map (group_trees digest n) (grouped fs))
-      (entries_within digest (suc n) fs ∷ []) (nested-held sub n within names full) (own, tt)) in
-      subst (λ (gs : Groups). AllByRecursion Held (flat_map (group_trees digest (suc n)) gs))
-      (sym (moved-grouped e.name ((c ∷ q), x) below files (lists-begin e.name l d.0)))
-      (all-append Held (trees_within digest (suc n) fs)
-      (flat_map (group_trees digest (suc n)) (grouped files)) inner
-      (nested-held l (suc n)
-      (depth-later (moved (e.name ∷ []) fs) files (suc (suc n)) deep) d.1 h.1))
+      (entries_within digest (suc n) fs ∷ []) inner.1 (held e.id inside _ has entries, tt)) in (
+        ap (map (direct_of digest (suc n))) same
+            ∙ ap (λ (t : TreeEntry). t ∷ map (direct_of digest (suc n)) (grouped files)) here
+            ∙ ap (λ (r : List TreeEntry). e ∷ r) rest.0,
+        subst (λ (gs : Groups). AllByRecursion Held (flat_map (group_trees digest (suc n)) gs))
+            (sym same)
+            (all-append Held (trees_within digest (suc n) fs)
+            (flat_map (group_trees digest (suc n)) (grouped files)) trees rest.1),
+      )
 
   -- ---- the tree of a name
 
@@ -167,8 +144,8 @@ module _ (digest : List ℕ → List ℕ) (os : List Object) (good : AreTreesGoo
   entries-again id (((c ∷ q), x) ∷ fs) t zero deep = absurd (omega arith)
   entries-again id fs t (suc n) deep =
       step digest n fs
-      ∙ listed-again t.lists n deep (distinct t.direct t.tree.entries.names_are_distinct)
-      (filled-in id t.direct t.tree)
+      ∙ (listed-again t.lists n deep (distinct t.direct t.tree.entries.names_are_distinct)
+      (filled-in id t.direct t.tree)).0
 
   pub trees-held : (id : List ℕ) (fs : Listed) (t : ListsTree os id fs) (n : ℕ) → depth_of fs ≤ n
       → AllByRecursion Held (trees_within digest n fs)
@@ -182,8 +159,8 @@ module _ (digest : List ℕ → List ℕ) (os : List Object) (good : AreTreesGoo
       subst (AllByRecursion Held) (sym (trees-step digest n fs))
       (all-append Held (flat_map (group_trees digest n) (grouped fs))
       (entries_within digest (suc n) fs ∷ [])
-      (nested-held t.lists n deep (distinct t.direct t.tree.entries.names_are_distinct)
-      (filled-in id t.direct t.tree))
+      (listed-again t.lists n deep (distinct t.direct t.tree.entries.names_are_distinct)
+      (filled-in id t.direct t.tree)).1
       (held id t.direct _ t.tree (entries-again id fs t (suc n) deep), tt))
 
   -- ---- storing trees that are there

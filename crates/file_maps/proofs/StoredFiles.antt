@@ -15,7 +15,7 @@ use Rattle.file_maps.specs.StoredTree.{HasTree, file_from, Lists, nothing, first
 use Rattle.file_maps.specs.StoredFiles.{listed_by, listed_within}
 use Rattle.file_maps.proofs.Apart.{all-weaker}
 
-one_file : (m : FileMode) (e : TreeEntry) (b : Listed) → m ≢ mode.Directory
+pub one_file : (m : FileMode) (e : TreeEntry) (b : Listed) → m ≢ mode.Directory
     → listed_by m e b ≡ file_from e ∷ []
 one_file mode.Directory e b ne = absurd (ne refl)
 one_file mode.Regular e b ne = refl
@@ -33,10 +33,10 @@ module _ (os : List Object) where
       ap (λ (o : Option Content). entries_in (unwrap_or o no_content).kind
       (unwrap_or o no_content).bytes) h.content ∙ tree_back es h.entries
 
-  abbrev listed_at : ℕ → List TreeEntry → Listed
+  abbrev pub listed_at : ℕ → List TreeEntry → Listed
   listed_at n es = flat_map (λ e. listed_by e.mode e (listed_within os n e.id)) es
 
-  level : (n : ℕ) (id : List ℕ) (es : List TreeEntry) → HasTree os id es
+  pub level : (n : ℕ) (id : List ℕ) (es : List TreeEntry) → HasTree os id es
       → listed_within os (suc n) id ≡ listed_at n es
   unfolding listed_within
   level n id es h = ap (listed_at n) (entries-at id es h)

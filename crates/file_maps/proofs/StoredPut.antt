@@ -1,44 +1,31 @@
 -- The files of a stored tree, put into a file map, leave one.
-use Rattle.std.proofs.Common.{◌≡◌, List, [], ◌∷◌, ◌++◌, ℕ, None, Some, refl}
+use Rattle.std.proofs.Common.{◌≡◌, List, [], ◌++◌, ℕ, None, Some, refl}
 use Rattle.std.specs.List.{AllByRecursion}
-use Rattle.std.proofs.lemmas.List.Elements.{All-append, All-cons, All-nil, recursion_from_All}
+use Rattle.std.proofs.lemmas.List.Elements.{All-append, All-cons, All-nil}
 use Rattle.git_model.specs.declared.kind.Kind.TheVariants as kind
 use Rattle.git_model.specs.GoodRepository.{AreObjects}
 use Rattle.git_model.specs.References.{kind_named}
 use Rattle.git_model.specs.Repository.{Object}
-use Rattle.git_model.specs.Tree.{TreeEntry, CanWriteEntry}
 use Rattle.git_paths.specs.Paths.{IsComponent, IsPath}
 use Rattle.file_maps.specs.declared.entry.Entry.{Entry}
 use Rattle.file_maps.specs.Edits.{moved, put_fault, put_tree_at}
 use Rattle.file_maps.specs.FileMap.{AreFiles, FileMap, Listed, Path, listed}
 use Rattle.file_maps.specs.Kept.{IsBelow}
 use Rattle.file_maps.specs.StoredFiles.{stored_files}
-use Rattle.file_maps.specs.StoredTree.{Lists, nothing, first_file, first_directory, ListsTree}
+use Rattle.file_maps.specs.StoredTree.{ListsTree}
 use Rattle.file_maps.proofs.Apart.{all-both, all-map, all-weaker}
 use Rattle.file_maps.proofs.EditedMaps.{files-edited}
 use Rattle.file_maps.proofs.GoodObjects.{files-of}
-use Rattle.file_maps.proofs.Listing.{IsSound, all-append, apart-moved, tree-apart, tree-sound}
+use Rattle.file_maps.proofs.Listing.{IsSound, apart-moved, tree-apart, tree-each, tree-sound}
 
 abbrev pub HasPath : Path × Entry → Type 0
 HasPath f = IsPath f.0
 
-lists-paths : {os : List Object} {es : List TreeEntry} {fs : Listed} → Lists os es fs
-    → AllByRecursion CanWriteEntry es → AllByRecursion HasPath fs
-lists-paths nothing h = tt
-lists-paths (first_file e es files ne l) h =
-    (All-cons IsComponent e.name [] h.0.name (All-nil IsComponent), lists-paths l h.1)
-lists-paths (first_directory e es inside below files is has sub l) h =
-    all-append HasPath (moved (e.name ∷ []) below) files
-    (all-map (λ (g : Path × Entry). (e.name ∷ [] ++ g.0, g.1)) HasPath below
-    (all-weaker HasPath (λ (g : Path × Entry). HasPath (e.name ∷ g.0, g.1))
-    (λ g path. All-cons IsComponent e.name g.0 h.0.name path) below
-    (lists-paths sub (recursion_from_All CanWriteEntry inside has.entries.entries))))
-    (lists-paths l h.1)
-
 pub tree-paths : (os : List Object) (id : List ℕ) (fs : Listed) → ListsTree os id fs
     → AllByRecursion HasPath fs
-tree-paths os id fs t =
-    lists-paths t.lists (recursion_from_All CanWriteEntry t.direct t.tree.entries.entries)
+tree-paths =
+    tree-each HasPath (λ e h ne. All-cons IsComponent e.name [] h.name (All-nil IsComponent))
+    (λ e h g path. All-cons IsComponent e.name g.0 h.name path)
 
 pub stored-put : (digest : List ℕ → List ℕ) (os : List Object) → AreObjects digest os
     → (m : FileMap) → AreFiles (listed m) → (tree : List ℕ) → kind_named tree os ≡ Some kind.Tree

@@ -1,5 +1,5 @@
 -- File maps: which file stands at each path of a tree, as git-ls-tree(1) lists them with -r.
-use Rattle.std.specs.Prelude.{◌≡◌, ◌≢◌, ℕ, zero, suc, ◌≤◌, Bool, ◌&&◌, not, is_some, List, [], ◌∷◌}
+use Rattle.std.specs.Prelude.{◌≡◌, ◌≢◌, ℕ, get_or, ◌≤◌, Bool, ◌&&◌, not, is_some, List, [], ◌∷◌}
 use Rattle.std.specs.Prelude.{length, true, IsTrue, refl}
 use Rattle.std.specs.Coded.{Coded, code_by, coded×, coded_list, coded_ℕ}
 use Rattle.std.specs.FinMap as map
@@ -64,12 +64,11 @@ mode_number mode.Symlink = 2
 mode_number mode.Gitlink = 3
 mode_number mode.Directory = 4
 
+abbrev pub modes : List FileMode
+modes = mode.Regular ∷ mode.Executable ∷ mode.Symlink ∷ mode.Gitlink ∷ mode.Directory ∷ []
+
 abbrev pub mode_of : ℕ → FileMode
-mode_of zero = mode.Regular
-mode_of (suc zero) = mode.Executable
-mode_of (suc (suc zero)) = mode.Symlink
-mode_of (suc (suc (suc zero))) = mode.Gitlink
-mode_of (suc (suc (suc (suc n)))) = mode.Directory
+mode_of n = get_or modes n mode.Regular
 
 pub mode_of-number : (m : FileMode) → mode_of (mode_number m) ≡ m
 mode_of-number mode.Regular = refl

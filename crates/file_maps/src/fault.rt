@@ -2,9 +2,9 @@
 
 ghost use Rattle.std.specs.Prelude.{◌≡◌};
 ghost use Rattle.file_maps.specs.Faults.{fault_code};
+ghost use Rattle.file_maps.specs.declared.fault.Fault.TheVariants as fault;
 
 use git_objects::Memory;
-use std::alloc::{AllocError, AllocFailed};
 use thiserror::Error;
 
 /// Why a call of `Files` was refused.
@@ -12,25 +12,25 @@ use thiserror::Error;
 pub enum Fault {
     /// The table has no object of this name: 14.
     #[error("object unknown")]
-    ObjectUnknown,
+    ObjectUnknown = 14,
     /// The object is no tree: 15.
     #[error("wrong kind")]
-    WrongKind,
+    WrongKind = 15,
     /// No file stands at or below the source: 18.
     #[error("source missing")]
-    SourceMissing,
+    SourceMissing = 18,
     /// A file would stand at the root: 20.
     #[error("root must be a directory")]
-    RootNotDirectory,
+    RootNotDirectory = 20,
     /// The table has another object under the name of a tree: 24.
     #[error("object name collision")]
-    NameCollision,
+    NameCollision = 24,
     /// A path would be too long, or there would be too many files or objects: 25.
     #[error("limit exceeded")]
-    Limit,
+    Limit = 25,
     /// An allocation failed: 90.
     #[error("out of memory")]
-    Memory,
+    Memory = 90,
 }
 
 impl Fault {
@@ -39,44 +39,14 @@ impl Fault {
     pub fn code(self) -> u16
         ensures { result ≡ fault_code self }
     {
-        match self {
-            Fault::ObjectUnknown => 14,
-            Fault::WrongKind => 15,
-            Fault::SourceMissing => 18,
-            Fault::RootNotDirectory => 20,
-            Fault::NameCollision => 24,
-            Fault::Limit => 25,
-            Fault::Memory => 90,
-        }
+        self as u16
     }
 }
 
 impl From<Memory> for Fault {
-    ghost use Rattle.file_maps.specs.declared.fault.Fault.TheVariants as fault;
-
     ghost from_gives = { λ _ refused. refused ≡ fault.Memory };
 
     fn from(_refused: Memory) -> Fault {
-        Fault::Memory
-    }
-}
-
-impl From<AllocError> for Fault {
-    ghost use Rattle.file_maps.specs.declared.fault.Fault.TheVariants as fault;
-
-    ghost from_gives = { λ _ refused. refused ≡ fault.Memory };
-
-    fn from(_refused: AllocError) -> Fault {
-        Fault::Memory
-    }
-}
-
-impl<T: Drop> From<AllocFailed<T>> for Fault {
-    ghost use Rattle.file_maps.specs.declared.fault.Fault.TheVariants as fault;
-
-    ghost from_gives = { λ _ refused. refused ≡ fault.Memory };
-
-    fn from(_refused: AllocFailed<T>) -> Fault {
         Fault::Memory
     }
 }

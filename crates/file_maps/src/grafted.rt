@@ -4,8 +4,7 @@ ghost use Rattle.std.specs.Prelude.{◌≡◌, Some, List, IfOk, IfErr};
 ghost use Rattle.git_model.specs.Tree.{TreeEntry as ListedEntry};
 ghost use Rattle.git_objects.specs.Parts.{entries_of};
 ghost use Rattle.tenant_tables.specs.IsBackedBy.{HasSummary};
-ghost use Rattle.file_maps.specs.StoredTree.{HasTree};
-ghost use Rattle.file_maps.specs.Grafts.{tree_fault, is_small};
+ghost use Rattle.file_maps.specs.{StoredTree.{HasTree}, Grafts.{tree_fault, is_small}};
 
 use crate::check::FILES_LIMIT;
 use crate::fault::Fault;

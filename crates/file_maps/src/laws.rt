@@ -1,31 +1,24 @@
 //! Laws of file maps: functions over the definitions alone, which run nothing.
 
 ghost use Rattle.std.specs.Prelude.{◌≡◌, ◌≢◌, ◌↔◌, ℕ, List, [], ◌∷◌, ◌++◌, All, None, Some};
-ghost use Rattle.std.specs.FinMap as finmap;
-ghost use Rattle.git_model.specs.declared.kind.Kind.TheVariants as kind;
-ghost use Rattle.git_model.specs.GoodRepository.{AreObjects, MayAdd};
-ghost use Rattle.git_model.specs.References.{kind_named};
-ghost use Rattle.git_model.specs.Content.{Content};
-ghost use Rattle.git_model.specs.Repository.{Object, Repository, with_object};
-ghost use Rattle.git_model.specs.RefStore.{no_refs};
-ghost use Rattle.git_model.specs.Tree.{TreeEntry};
+ghost use Rattle.git_model.specs.{GoodRepository.{AreObjects, MayAdd}, References.{kind_named}};
+ghost use Rattle.git_model.specs.{Content.{Content}, Repository.{Object, Repository, with_object}};
+ghost use Rattle.git_model.specs.{RefStore.{no_refs}, Tree.{TreeEntry}};
 ghost use Rattle.git_names.specs.Naming.{AnswersNames};
 ghost use Rattle.content_pool.specs.Pool.{Cells};
-ghost use Rattle.tenant_tables.specs.View.{Entries, summary_of};
-ghost use Rattle.tenant_tables.specs.Objects.{objects};
-ghost use Rattle.tenant_tables.specs.IsBackedBy.{IsBackedBy};
-ghost use Rattle.tenant_tables.specs.Sums.{IsWithin, TreesFit};
+ghost use Rattle.tenant_tables.specs.{View.{Entries, summary_of}, Objects.{objects}};
+ghost use Rattle.tenant_tables.specs.{IsBackedBy.{IsBackedBy}, Sums.{IsWithin, TreesFit}};
 ghost use Rattle.file_maps.specs.FileMap.{FileMap, Path, Listed, AreFiles, listed};
-ghost use Rattle.file_maps.specs.HeldFiles.{IsFileHeld};
-ghost use Rattle.file_maps.specs.Edits.{files_at, with_files};
+ghost use Rattle.file_maps.specs.{HeldFiles.{IsFileHeld}, Edits.{files_at, with_files}};
 ghost use Rattle.file_maps.specs.Trees.{grouped, nested_trees, tree_entries, tree_id};
-ghost use Rattle.file_maps.specs.ByComponent.{AreByDirectory, IsByFirstComponent, IsTreeByComponent};
+ghost use Rattle.file_maps.specs.ByComponent.{AreByDirectory, IsByFirstComponent};
+ghost use Rattle.file_maps.specs.{ByComponent.{IsTreeByComponent}, Storable.{files_summary}};
 ghost use Rattle.file_maps.specs.StoredTree.{HasTree, ListsTree, AreFilesOf};
-ghost use Rattle.file_maps.specs.Storable.{files_summary};
-ghost use Rattle.file_maps.specs.Storing.{trees_fault, with_trees};
-ghost use Rattle.file_maps.specs.StoredFiles.{stored_files};
+ghost use Rattle.file_maps.specs.{Storing.{trees_fault, with_trees}, StoredFiles.{stored_files}};
 ghost use Rattle.file_maps.specs.GoodTrees.{IsTreeOfFiles, IsRepository, StayGood};
 ghost use Rattle.file_maps.specs.StoredAgain.{AreTreesGood, IsStoredAlready};
+ghost use Rattle.std.specs.FinMap as finmap;
+ghost use Rattle.git_model.specs.declared.kind.Kind.TheVariants as kind;
 
 /// Below any path, the neighbouring files with the same first component are all files at or below
 /// that component: in the order of whole paths, the files of one directory are side by side.

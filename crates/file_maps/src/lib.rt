@@ -14,4 +14,4 @@ pub use entry::Entry;
 pub use fault::Fault;
 pub use grafted::{is_small, read_entries, tree_summary};
 pub use naming::contents_of;
-pub use storing::add_entries;
+pub use storing::{add_contents, add_entries};

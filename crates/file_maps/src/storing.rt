@@ -1,12 +1,9 @@
 //! Adding one tree to a table.
 
-ghost use Rattle.std.specs.Prelude.{◌≡◌, [], ◌∷◌, Some, OnOk, OnErr};
+ghost use Rattle.std.specs.Prelude.{◌≡◌, List, [], ◌∷◌, Some, OnOk, OnErr};
 ghost use Rattle.git_objects.specs.Parts.{entries_of};
-ghost use Rattle.git_model.specs.ObjectName.{IsObjectName};
-ghost use Rattle.git_model.specs.Tree.{tree_contents};
-ghost use Rattle.tenant_tables.specs.IsBackedBy.{IsBackedBy};
-ghost use Rattle.tenant_tables.specs.Trees.{FitsTree};
-ghost use Rattle.tenant_tables.specs.View.{summary_of};
+ghost use Rattle.git_model.specs.Tree.{TreeEntry as ListedEntry, tree_contents};
+ghost use Rattle.tenant_tables.specs.{IsBackedBy.{IsBackedBy}, Trees.{FitsTree}, View.{summary_of}};
 ghost use Rattle.file_maps.specs.Trees.{tree_name};
 ghost use Rattle.file_maps.specs.Storing.{StoresTrees, HasHoldsLeftBeside, as_fault};
 
@@ -24,6 +21,32 @@ fn as_fault(refusal: TableFault) -> Fault
         TableFault::Limit => Fault::Limit,
         TableFault::NameCollision => Fault::NameCollision,
         TableFault::Memory => Fault::Memory,
+    }
+}
+
+/// Adds the tree with these contents to a table, and answers its name. The summary is that of its
+/// files.
+///
+/// The same as `add_entries`, of contents that are written already.
+pub fn add_contents<N: Naming>(
+    pool: &mut Pool<N>,
+    table: &mut Table,
+    contents: Vec<u8>,
+    summary: Summary,
+) -> Result<Name, Fault>
+    requires stands { IsBackedBy N.digest_of pool.old table.old.entries }
+    requires room { HasHoldsLeftBeside pool.old table.old.entries }
+    requires fits { FitsTree table.old.entries contents.items summary }
+    ensures stores { (es : List ListedEntry) → contents.items ≡ tree_contents es
+        → StoresTrees result N.digest_of pool.old table.old pool.new table.new
+        (es ∷ []) (tree_name N.digest_of es) }
+    ensures known { (es : List ListedEntry) → contents.items ≡ tree_contents es
+        → OnOk result (summary_of (tree_name N.digest_of es) table.new.entries ≡ Some summary) }
+    ensures same { OnErr result ((table.new ≡ table.old) × (pool.new ≡ pool.old)) }
+{
+    match table.add_tree_owned(pool, contents, summary) {
+        Ok(id) => Ok(id),
+        Err(refusal) => Err(as_fault(refusal)),
     }
 }
 
@@ -53,8 +76,5 @@ pub fn add_entries<N: Naming>(
     ensures same { OnErr result ((table.new ≡ table.old) × (pool.new ≡ pool.old)) }
 {
     let contents = contents_of(alloc, entries)?;
-    match table.add_tree_owned(pool, contents, summary) {
-        Ok(id) => Ok(id),
-        Err(refusal) => Err(as_fault(refusal)),
-    }
+    add_contents(pool, table, contents, summary)
 }

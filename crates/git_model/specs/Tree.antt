@@ -32,11 +32,8 @@ tree_contents es = flat_map entry_text es
 
 -- Git compares the name of a directory as if it ended in a slash.
 abbrev pub slash_of : FileMode → List ℕ
-slash_of mode.Regular = []
-slash_of mode.Executable = []
-slash_of mode.Symlink = []
-slash_of mode.Gitlink = []
 slash_of mode.Directory = codes "/"
+slash_of _ = []
 
 abbrev pub order_key : TreeEntry → List ℕ
 order_key e = e.name ++ slash_of e.mode

@@ -2,22 +2,21 @@
 //!
 //! A law is a function with an empty body: its clause states the law, and a call does nothing.
 
-ghost use Rattle.std.specs.Prelude.{◌≡◌, ◌↔◌, ℕ, List, [], ◌∷◌, ◌++◌, ◌≤◌, take, Option, Some, IsTrue};
-ghost use Rattle.std.specs.FinMap as map;
-ghost use Rattle.git_model.specs.declared.kind.Kind.{Kind as Kinds};
-ghost use Rattle.git_model.specs.declared.kind.Kind.TheVariants as kind;
+ghost use Rattle.std.specs.Prelude.{◌≡◌, ◌↔◌, ℕ, List, [], ◌∷◌, ◌++◌, ◌≤◌, take, Option, Some};
+ghost use Rattle.std.specs.Prelude.{IsTrue};
+ghost use Rattle.git_model.specs.{declared.kind.Kind.{Kind as Kinds}, TreeReading.{tree_read}};
 ghost use Rattle.git_model.specs.Tree.{TreeEntry, CanWriteTree, tree_contents};
-ghost use Rattle.git_model.specs.TreeReading.{tree_read};
 ghost use Rattle.git_model.specs.Commit.{Commit, CanWriteCommit, commit_contents};
-ghost use Rattle.git_model.specs.CommitReading.{commit_read};
-ghost use Rattle.git_model.specs.Tag.{Tag, CanWriteTag, tag_contents};
-ghost use Rattle.git_model.specs.TagReading.{tag_read};
-ghost use Rattle.git_model.specs.Repository.{Object};
+ghost use Rattle.git_model.specs.{CommitReading.{commit_read}, TagReading.{tag_read}};
+ghost use Rattle.git_model.specs.{Tag.{Tag, CanWriteTag, tag_contents}, Repository.{Object}};
 ghost use Rattle.git_model.specs.References.{kind_named, parents_of, referred_by};
-ghost use Rattle.git_model.specs.GoodRepository.{AreObjects, MayAdd, AreRefs, IsShortRefName, MayHold, refs_limit};
+ghost use Rattle.git_model.specs.GoodRepository.{AreObjects, MayAdd, AreRefs, IsShortRefName};
+ghost use Rattle.git_model.specs.GoodRepository.{MayHold, refs_limit};
 ghost use Rattle.git_model.specs.RefStore.{RefStore, no_refs, with_head, ChangesRef};
-ghost use Rattle.git_model.specs.Peeling.{ComesFirstTo, is_of, is_there_untagged, next_to, peeled_to, without_tags};
-ghost use Rattle.git_model.specs.Reach.{Reaches, is_reachable};
+ghost use Rattle.git_model.specs.Peeling.{ComesFirstTo, is_of, is_there_untagged, next_to};
+ghost use Rattle.git_model.specs.{Peeling.{peeled_to, without_tags}, Reach.{Reaches, is_reachable}};
+ghost use Rattle.std.specs.FinMap as map;
+ghost use Rattle.git_model.specs.declared.kind.Kind.TheVariants as kind;
 
 /// Reading the contents of a tree gives back its entries.
 pub fn trees_are_read_back()

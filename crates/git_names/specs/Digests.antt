@@ -1,10 +1,9 @@
 -- Both digests give object names.
 use Rattle.std.proofs.Common.{◌≡◌, ◌<◌, ℕ, zero, suc, List, [], ◌∷◌, length, refl, arith, ◌%◌, All, replicate, sum}
-use Rattle.std.specs.Int.{byte_at, bytes_high_first, to_be_bytes, w32}
+use Rattle.std.specs.Int.{byte_at, bytes_high_first}
 use Rattle.std.proofs.Math.Nat.{mod-lt}
 use Rattle.std.proofs.lemmas.List.Elements.{All-nil, All-cons, All-append, All-replicate}
-use Rattle.sha1.specs.Sha1.{sha1, digest_bytes, hash_after, padded_message}
-use Rattle.git_model.specs.ObjectName.{IsObjectName}
+use Rattle.sha1.specs.Sha1.{sha1, digest_bytes}
 use Rattle.git_names.specs.Naming.{AnswersNames, tail_digest}
 
 abbrev IsByte : ℕ → Type 0

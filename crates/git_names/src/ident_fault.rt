@@ -1,10 +1,10 @@
 //! Why an ident could not be read.
 
 ghost use Rattle.std.specs.Prelude.{◌≡◌};
-ghost use Rattle.git_names.specs.declared.ident_fault.IdentFault.TheVariants.{Memory as OutOfMemory};
+ghost use Rattle.git_names.specs.Ident.{code_of};
+ghost use Rattle.git_names.specs.declared.ident_fault.IdentFault.TheVariants as fault;
 
 use git_model::Memory;
-use std::alloc::AllocError;
 use thiserror::Error;
 
 /// Why an ident could not be read.
@@ -12,42 +12,28 @@ use thiserror::Error;
 pub enum IdentFault {
     /// The name, the email or the space after it is wrong: 21.
     #[error("bad identity")]
-    BadIdentity,
+    BadIdentity = 21,
     /// The seconds, or the offset after them, are wrong: 22.
     #[error("bad date")]
-    BadDate,
+    BadDate = 22,
     /// An allocation failed: 90.
     #[error("out of memory")]
-    Memory,
+    Memory = 90,
 }
 
 impl IdentFault {
-    ghost use Rattle.git_names.specs.Ident.{code_of};
-
     /// The number of the fault: 21 bad identity, 22 bad date, 90 out of memory.
     pub fn code(self) -> u16
         ensures { result ≡ code_of self }
     {
-        match self {
-            IdentFault::BadIdentity => 21,
-            IdentFault::BadDate => 22,
-            IdentFault::Memory => 90,
-        }
+        self as u16
     }
 }
 
 impl From<Memory> for IdentFault {
-    ghost from_gives = { λ _ e. e ≡ OutOfMemory };
+    ghost from_gives = { λ _ refused. refused ≡ fault.Memory };
 
-    fn from(_e: Memory) -> IdentFault {
-        IdentFault::Memory
-    }
-}
-
-impl From<AllocError> for IdentFault {
-    ghost from_gives = { λ _ e. e ≡ OutOfMemory };
-
-    fn from(_e: AllocError) -> IdentFault {
+    fn from(_refused: Memory) -> IdentFault {
         IdentFault::Memory
     }
 }

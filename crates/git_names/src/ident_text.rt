@@ -1,12 +1,10 @@
 //! The parts of an ident's text, found from left to right. Nothing here takes memory.
 
-ghost use Rattle.std.specs.Prelude.{◌≡◌, ◌≤◌, length, take};
-ghost use Rattle.std.specs.Option.{option_copied};
-ghost use Rattle.std.specs.List.{prefix_len, list_all};
-ghost use Rattle.std.specs.Char.{is_ascii_digit};
+ghost use Rattle.std.specs.{Prelude.{◌≡◌, ◌≤◌, length, take}, Option.{option_copied}};
+ghost use Rattle.std.specs.{List.{prefix_len, list_all}, Char.{is_ascii_digit}};
 ghost use Rattle.git_model.specs.Ident.{is_person_byte as person_byte, is_offset as offset};
-ghost use Rattle.git_model.specs.IdentReading as reading;
 ghost use Rattle.numerals.specs.Numbers.{number_of};
+ghost use Rattle.git_model.specs.IdentReading as reading;
 
 use numerals::read_number;
 

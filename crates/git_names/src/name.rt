@@ -1,13 +1,11 @@
 //! Object names: gitglossary(7), "object name".
 
-ghost use Rattle.std.specs.Prelude.{◌≡◌, ◌≢◌, ℕ, List, MatchOption, Result, take, length, [], ◌∷◌};
-ghost use Rattle.std.specs.Cmp.Lexicographic.{slice_cmp};
-ghost use Rattle.std.specs.Cmp.Rules.{comparing, hashing};
+ghost use Rattle.std.specs.Prelude.{◌≡◌, ◌≢◌, ℕ, List, MatchOption, take, length, [], ◌∷◌};
+ghost use Rattle.std.specs.{Cmp.Lexicographic.{slice_cmp}, Cmp.Rules.{hashing}, Ordering.{nat_cmp}};
 ghost use Rattle.std.specs.Int.{from_be_bytes, w64};
-ghost use Rattle.std.specs.Ordering.{nat_cmp};
-ghost use Rattle.std.proofs.Common.{rules};
 ghost use Rattle.git_model.specs.ObjectName.{IsObjectName};
 ghost use Rattle.hex.specs.Hex.{encode_lower, decode_sized};
+ghost use Rattle.std.proofs.Common.{rules};
 
 use hex::FromHex;
 use std::cmp::Ordering;
@@ -31,8 +29,7 @@ impl Model for Name {
 }
 
 impl PartialOrd for Name {
-    ghost use Rattle.std.specs.Prelude.{Some};
-    ghost use Rattle.std.specs.Ordering.{nat_cmp};
+    ghost use Rattle.std.specs.{Prelude.{Some}, Ordering.{nat_cmp}};
     ghost use Rattle.std.specs.Cmp.Lexicographic.{slice_cmp, texts_po};
 
     ghost partial_cmp = { λ a b. Some (slice_cmp nat_cmp a b) };
@@ -45,8 +42,7 @@ impl PartialOrd for Name {
 }
 
 impl Ord for Name {
-    ghost use Rattle.std.specs.Prelude.{refl};
-    ghost use Rattle.std.specs.Ordering.{nat_cmp};
+    ghost use Rattle.std.specs.{Prelude.{refl}, Ordering.{nat_cmp}};
     ghost use Rattle.std.specs.Cmp.Lexicographic.{slice_cmp, nat_list_cmp_total, texts_ties};
 
     ghost cmp = { slice_cmp nat_cmp };

@@ -1,8 +1,7 @@
 //! The name of an object, from its kind and contents: git-hash-object(1).
 
 ghost use Rattle.std.specs.Prelude.{◌≡◌, ◌≤◌, ◌+◌, ◌++◌, ◌∷◌, [], length, codes, decimal, IfOk};
-ghost use Rattle.git_model.specs.Kind.{kind_word};
-ghost use Rattle.git_model.specs.ObjectName.{object_name};
+ghost use Rattle.git_model.specs.{Kind.{kind_word}, ObjectName.{object_name}};
 
 use crate::name::Name;
 use crate::naming::Naming;

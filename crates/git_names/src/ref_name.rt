@@ -5,7 +5,8 @@
 
 ghost use Rattle.std.specs.Prelude.{◌≡◌, ◌≤◌, ◌<◌, ◌↔◌, IfOk, OnOk, Err, IsTrue, length, codes};
 ghost use Rattle.git_model.specs.Limits.{ref_name_limit};
-ghost use Rattle.git_names.specs.declared.ref_name_fault.RefNameFault.TheVariants.{BadRefName, Limit};
+ghost use Rattle.git_names.specs.declared.ref_name_fault.RefNameFault.TheVariants.{BadRefName};
+ghost use Rattle.git_names.specs.declared.ref_name_fault.RefNameFault.TheVariants.{Limit};
 ghost use Rattle.git_names.specs.StoredName.{NamesRef};
 
 use crate::ref_name_fault::RefNameFault;

@@ -3,10 +3,11 @@
 //! Only the bytes of the text count. Its length has no limit, and the ref need not exist.
 //! `refs/heads/main` is a ref name; `refs/heads/a..b` and `HEAD` are not.
 
-ghost use Rattle.std.specs.Prelude.{◌≡◌, ◌↔◌, IsTrue, not};
-ghost use Rattle.std.specs.List.{slice_split, list_all};
-ghost use Rattle.git_model.specs.Bytes.{holds};
-ghost use Rattle.git_model.specs.RefName.{IsRefName, components, is_forbidden as forbidden, is_in_refs as in_refs, is_ref_text as ref_text, is_ref_component as ref_component, is_ref_name as ref_name};
+ghost use Rattle.std.specs.{Prelude.{◌≡◌, ◌↔◌, IsTrue, not}, List.{list_all}};
+ghost use Rattle.git_model.specs.{Bytes.{holds}, RefName.{is_ref_component as ref_component}};
+ghost use Rattle.git_model.specs.RefName.{IsRefName, components, is_forbidden as forbidden};
+ghost use Rattle.git_model.specs.RefName.{is_in_refs as in_refs, is_ref_text as ref_text};
+ghost use Rattle.git_model.specs.RefName.{is_ref_name as ref_name};
 
 /// Whether a text is a ref name by the rules of git-check-ref-format(1), and begins with `refs/`
 /// but not with `refs/namespaces/`. Its length has no limit. Takes no memory.

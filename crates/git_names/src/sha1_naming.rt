@@ -1,6 +1,5 @@
 //! Git's own digest: SHA-1 of FIPS 180-4.
 
-ghost use Rattle.std.specs.Prelude.{◌++◌};
 ghost use Rattle.sha1.specs.Sha1.{sha1};
 ghost use Rattle.git_names.specs.Digests.{sha1_answers_names};
 

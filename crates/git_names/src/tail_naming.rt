@@ -1,8 +1,7 @@
 //! A naming for tests, under which collisions are easy to find.
 
 ghost use Rattle.std.specs.Prelude.{◌≡◌, ◌%◌, sum};
-ghost use Rattle.git_names.specs.Digests.{tail_answers_names};
-ghost use Rattle.git_names.specs.Naming.{tail_digest};
+ghost use Rattle.git_names.specs.{Digests.{tail_answers_names}, Naming.{tail_digest}};
 
 use crate::naming::Naming;
 

@@ -1,7 +1,6 @@
 //! Bytes on the heap that compare and hash as bytes do. A ref name is kept in them.
 
-ghost use Rattle.std.specs.Prelude.{◌≡◌, IfOk};
-ghost use Rattle.std.specs.Cmp.Rules.{comparing, hashing};
+ghost use Rattle.std.specs.{Prelude.{◌≡◌, IfOk}, Cmp.Rules.{comparing, hashing}};
 ghost use Rattle.std.proofs.Common.{rules};
 
 use std::alloc::{AllocError, Global};
@@ -50,8 +49,7 @@ impl Text {
 }
 
 impl PartialEq for Text {
-    ghost use Rattle.std.specs.Prelude.{nat_eq};
-    ghost use Rattle.std.specs.Cmp.Lexicographic.{pointwise};
+    ghost use Rattle.std.specs.{Prelude.{nat_eq}, Cmp.Lexicographic.{pointwise}};
 
     ghost eq = { pointwise nat_eq };
 
@@ -67,8 +65,7 @@ impl Eq for Text {
 }
 
 impl PartialOrd for Text {
-    ghost use Rattle.std.specs.Prelude.{Some};
-    ghost use Rattle.std.specs.Ordering.{nat_cmp};
+    ghost use Rattle.std.specs.{Prelude.{Some}, Ordering.{nat_cmp}};
     ghost use Rattle.std.specs.Cmp.Lexicographic.{slice_cmp, texts_po};
 
     ghost partial_cmp = { λ a b. Some (slice_cmp nat_cmp a b) };
@@ -81,8 +78,7 @@ impl PartialOrd for Text {
 }
 
 impl Ord for Text {
-    ghost use Rattle.std.specs.Prelude.{refl};
-    ghost use Rattle.std.specs.Ordering.{nat_cmp};
+    ghost use Rattle.std.specs.{Prelude.{refl}, Ordering.{nat_cmp}};
     ghost use Rattle.std.specs.Cmp.Lexicographic.{slice_cmp, nat_list_cmp_total, texts_ties};
 
     ghost cmp = { slice_cmp nat_cmp };

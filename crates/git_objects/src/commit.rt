@@ -1,14 +1,11 @@
 //! The contents of commits: "commit object" in gitglossary(7).
 
-ghost use Rattle.std.specs.Prelude.{◌≡◌, ◌≢◌, ℕ, List, ◌++◌, length, take, Some, IfSome, IfOk, IsNone, IsSomeAnd, OnOk, OnErr, codes};
-ghost use Rattle.std.specs.List.{flat_map};
+ghost use Rattle.std.specs.Prelude.{◌≡◌, ◌≢◌, ℕ, List, ◌++◌, length, take, Some, IfSome, IfOk};
+ghost use Rattle.std.specs.{Prelude.{IsNone, IsSomeAnd, OnOk, OnErr, codes}, List.{flat_map}};
 ghost use Rattle.std.specs.Option.{option_map, option_copied};
-ghost use Rattle.git_model.specs.ObjectName.{IsObjectName};
+ghost use Rattle.git_model.specs.{ObjectName.{IsObjectName}, CommitReading.{commit_read}};
 ghost use Rattle.git_model.specs.Commit.{Commit, CanWriteCommit, commit_contents, name_line};
-ghost use Rattle.git_model.specs.CommitReading.{commit_read};
-ghost use Rattle.git_objects.specs.Parts.{commit_of};
-ghost use Rattle.git_objects.specs.Fronts.{IsFront};
-ghost use Rattle.git_objects.specs.HeaderParts.{end_lines};
+ghost use Rattle.git_objects.specs.{Parts.{commit_of}, Fronts.{IsFront}, HeaderParts.{end_lines}};
 ghost use Rattle.git_objects.specs.CommitParts.{AreParents, IsIdents, idents_text, IsEncoded};
 
 use crate::header::{

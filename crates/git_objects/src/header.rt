@@ -1,13 +1,11 @@
 //! The header lines of commits and tags: a word with the space after it, a text, and a line end.
 
-ghost use Rattle.std.specs.Prelude.{◌≡◌, ◌≢◌, ℕ, List, ◌∷◌, ◌++◌, length, take, All, MatchOption, IfSome, OnOk};
-ghost use Rattle.std.specs.Option.{option_map, option_copied};
+ghost use Rattle.std.specs.Prelude.{◌≡◌, ◌≢◌, ℕ, List, ◌∷◌, ◌++◌, length, take, All, MatchOption};
+ghost use Rattle.std.specs.{Prelude.{IfSome, OnOk}, Option.{option_map, option_copied}};
 ghost use Rattle.hex.specs.Hex.{encode_lower};
-ghost use Rattle.git_model.specs.ObjectName.{IsObjectName};
-ghost use Rattle.git_model.specs.Ident.{IsWrittenIdent};
+ghost use Rattle.git_model.specs.{ObjectName.{IsObjectName}, Ident.{IsWrittenIdent}};
 ghost use Rattle.git_model.specs.Commit.{line, name_line, optional_line};
-ghost use Rattle.git_objects.specs.Fronts.{IsFront};
-ghost use Rattle.git_objects.specs.HeaderParts.{end_lines};
+ghost use Rattle.git_objects.specs.{Fronts.{IsFront}, HeaderParts.{end_lines}};
 
 use crate::front::split_at_byte;
 use git_names::{Memory, Name, is_written_ident};

@@ -1,8 +1,7 @@
 //! Modes in octal digits, as trees have them: git-ls-tree(1).
 
 ghost use Rattle.std.specs.Prelude.{◌≡◌, ◌≢◌, MatchOption};
-ghost use Rattle.git_model.specs.declared.file_mode.FileMode.{FileMode};
-ghost use Rattle.git_model.specs.Tree.{mode_digits};
+ghost use Rattle.git_model.specs.{declared.file_mode.FileMode.{FileMode}, Tree.{mode_digits}};
 
 use git_model::FileMode;
 

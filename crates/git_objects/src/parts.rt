@@ -1,7 +1,6 @@
 //! Appends a text part by part.
 
-ghost use Rattle.std.specs.Prelude.{◌≡◌, ◌++◌, length, take, OnOk};
-ghost use Rattle.std.specs.List.{flat_map};
+ghost use Rattle.std.specs.{Prelude.{◌≡◌, ◌++◌, length, take, OnOk}, List.{flat_map}};
 
 use git_names::Memory;
 

@@ -1,16 +1,12 @@
 //! The contents of tags: git-mktag(1).
 
-ghost use Rattle.std.specs.Prelude.{◌≡◌, ◌≢◌, ◌↔◌, ◌++◌, length, take, MatchOption, IfSome, IfOk, IsNone, IsSomeAnd, IsTrue, OnOk, OnErr, codes};
+ghost use Rattle.std.specs.Prelude.{◌≡◌, ◌≢◌, ◌↔◌, ◌++◌, length, take, MatchOption, IfSome, IfOk};
+ghost use Rattle.std.specs.Prelude.{IsNone, IsSomeAnd, IsTrue, OnOk, OnErr, codes};
 ghost use Rattle.std.specs.Option.{option_map, option_copied};
-ghost use Rattle.git_model.specs.declared.kind.Kind.{Kind as Kinds};
-ghost use Rattle.git_model.specs.Kind.{kind_word as word_of};
-ghost use Rattle.git_model.specs.RefName.{IsRefName};
-ghost use Rattle.git_model.specs.Commit.{line};
-ghost use Rattle.git_model.specs.Tag.{Tag, CanWriteTag, tag_contents};
+ghost use Rattle.git_model.specs.{declared.kind.Kind.{Kind as Kinds}, Kind.{kind_word as word_of}};
+ghost use Rattle.git_model.specs.{RefName.{IsRefName}, Tag.{Tag, CanWriteTag, tag_contents}};
 ghost use Rattle.git_model.specs.TagReading.{tag_read};
-ghost use Rattle.git_objects.specs.Parts.{tag_of};
-ghost use Rattle.git_objects.specs.Fronts.{IsFront};
-ghost use Rattle.git_objects.specs.HeaderParts.{end_lines};
+ghost use Rattle.git_objects.specs.{Parts.{tag_of}, Fronts.{IsFront}, HeaderParts.{end_lines}};
 ghost use Rattle.git_objects.specs.TagParts.{IsTagged, IsTagger, kind_line};
 
 use crate::header::{

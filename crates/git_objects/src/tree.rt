@@ -1,12 +1,14 @@
 //! The contents of trees: "tree object" in gitglossary(7).
 
-ghost use Rattle.std.specs.Prelude.{◌≡◌, ◌≢◌, ◌↔◌, List, [], ◌∷◌, ◌++◌, length, take, All, IfSome, IfOk, IsNone, IsSomeAnd, position, OnOk, OnErr, IsTrue, ⊤};
+ghost use Rattle.std.specs.Prelude.{◌≡◌, ◌≢◌, ◌↔◌, List, [], ◌∷◌, ◌++◌, length, take, IfSome, IfOk};
+ghost use Rattle.std.specs.Prelude.{IsNone, IsSomeAnd, position, OnOk, OnErr, IsTrue, ⊤};
 ghost use Rattle.std.specs.Option.{option_map};
-ghost use Rattle.git_model.specs.Tree.{TreeEntry as Entry, IsEntryName, CanWriteEntry, CanWriteTree, entry_text, tree_contents};
+ghost use Rattle.git_model.specs.Tree.{TreeEntry as Entry, IsEntryName, CanWriteEntry};
+ghost use Rattle.git_model.specs.Tree.{CanWriteTree, entry_text, tree_contents};
 ghost use Rattle.git_model.specs.TreeReading.{tree_read};
-ghost use Rattle.git_objects.specs.Parts.{entry_of, entries_of};
-ghost use Rattle.git_objects.specs.Fronts.{IsFront};
-ghost use Rattle.git_objects.specs.TreeParts.{mode_text, name_text, ends_name, IsReserved, AreInOrder, HasTwin, CanFollow};
+ghost use Rattle.git_objects.specs.{Parts.{entry_of, entries_of}, Fronts.{IsFront}};
+ghost use Rattle.git_objects.specs.TreeParts.{mode_text, name_text, ends_name, IsReserved};
+ghost use Rattle.git_objects.specs.TreeParts.{AreInOrder, HasTwin, CanFollow};
 
 use crate::mode::mode_digits;
 use crate::tree_entry::TreeEntry;

@@ -1,8 +1,7 @@
 //! A direct entry of a tree, and the order in which Git lists entries.
 
 ghost use Rattle.std.specs.Prelude.{◌≡◌, ◌↔◌, ◌++◌, min, length, slice_get, IsTrue};
-ghost use Rattle.std.specs.Ordering.{nat_cmp};
-ghost use Rattle.std.specs.Cmp.Lexicographic.{slice_cmp};
+ghost use Rattle.std.specs.{Ordering.{nat_cmp}, Cmp.Lexicographic.{slice_cmp}};
 ghost use Rattle.git_model.specs.Tree.{IsEntryName, slash_of, tree_cmp};
 ghost use Rattle.git_objects.specs.Parts.{entry_of};
 

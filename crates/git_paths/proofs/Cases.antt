@@ -1,5 +1,6 @@
 -- Cases on a test, and the parts of what was read.
-use Rattle.std.proofs.Common.{◌≡◌, ℕ, List, Bool, true, false, Option, Some, refl, ap}
+use Rattle.std.proofs.Common.{◌≡◌, ℕ, List, Bool, true, false, Option, None, Some, MatchOption, IsSomeAnd, refl, ap}
+use Rattle.std.specs.Option.{option_map}
 
 pub by_cases : {P : Type 0} (b : Bool) → (b ≡ true → P) → (b ≡ false → P) → P
 by_cases true yea nay = yea refl
@@ -17,3 +18,11 @@ pub parts_are : (bytes rest others end : List ℕ) → parts bytes rest ≡ part
 parts_are bytes rest others end h =
     let both : ◌≡◌ {A = List ℕ × List ℕ} (bytes, rest) (others, end) = some_is _ _ h in
     (ap (λ (p : List ℕ × List ℕ). p.0) both, ap (λ (p : List ℕ × List ℕ). p.1) both)
+
+-- what `map` answered
+pub mapped : {A B C : Type 0} {P : A → C → Type 0} (v : A → B) (f : B → C) (o : Option A) (r : Option C)
+    → MatchOption o (r ≡ None) (λ x. IsSomeAnd r (P x)) → ((x : A) (y : C) → P x y → y ≡ f (v x))
+    → r ≡ option_map f (option_map v o)
+mapped v f None r h is = h
+mapped v f (Some x) (Some y) h is = ap Some (is x y h)
+mapped v f (Some x) None h is = absurd h

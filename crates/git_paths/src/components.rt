@@ -1,8 +1,8 @@
 //! Components of a path, borrowed from the path.
 
-ghost use Rattle.std.specs.Prelude.{◌≡◌, ◌≢◌, ◌<◌, [], ◌∷◌, ℕ, length, All, slice_index, IfSome, IfNone, MatchOption};
-ghost use Rattle.std.specs.Iterator.{YieldsFirstRef, item_count};
-ghost use Rattle.git_paths.specs.Paths.{IsPath, joined, components_of, is_slash};
+ghost use Rattle.std.specs.Prelude.{◌≡◌, ◌≢◌, ◌<◌, [], ◌∷◌, ℕ, length, All, slice_index, IfSome};
+ghost use Rattle.std.specs.{Prelude.{IfNone, MatchOption}, Iterator.{YieldsFirstRef, item_count}};
+ghost use Rattle.git_paths.specs.Paths.{IsPath, joined, components_of};
 
 use crate::judging::count_components;
 use std::marker::Model;

@@ -1,7 +1,8 @@
 //! Which bytes are a path, and which paths are within the limits.
 
-ghost use Rattle.std.specs.Prelude.{◌≡◌, ◌↔◌, ◌≤◌, ◌+◌, length, IsTrue, OnOk, IfErr, Ok, Err};
-ghost use Rattle.git_paths.specs.Paths.{IsComponent, is_part, is_component, is_path, is_within_limits, components_of};
+ghost use Rattle.std.specs.Prelude.{◌≡◌, ◌↔◌, ◌+◌, length, IsTrue, OnOk, IfErr, Ok, Err};
+ghost use Rattle.git_paths.specs.Paths.{IsComponent, is_part, is_component, is_path};
+ghost use Rattle.git_paths.specs.Paths.{is_within_limits, components_of};
 ghost use Rattle.git_paths.specs.Reading.{path_within_limits};
 
 use crate::fault::Fault;

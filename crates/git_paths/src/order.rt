@@ -4,8 +4,7 @@ use crate::path::Path;
 use std::cmp::Ordering;
 
 impl PartialEq for Path {
-    ghost use Rattle.std.specs.Prelude.{nat_eq};
-    ghost use Rattle.std.specs.Cmp.{partial_equiv_from_equiv};
+    ghost use Rattle.std.specs.{Prelude.{nat_eq}, Cmp.{partial_equiv_from_equiv}};
     ghost use Rattle.std.specs.Cmp.Lexicographic.{pointwise, lists_equiv, nat_list_eq_equiv};
 
     ghost eq = { pointwise (pointwise nat_eq) };

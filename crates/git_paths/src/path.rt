@@ -4,12 +4,11 @@
 //! is empty, `.` or `..`, and none contains NUL or `/`. The value holds the bytes, with `/` between
 //! components. `a/b` has the components `a` and `b`; the root has none, and no bytes.
 
-ghost use Rattle.std.specs.Prelude.{◌≡◌, ◌↔◌, List, ℕ, [], ◌∷◌, ◌++◌, length, IsTrue, IfOk, IfSome, OnOk, OnErr, Ok, Some, is_some, true};
-ghost use Rattle.git_paths.specs.Faults.{Gives};
-ghost use Rattle.git_paths.specs.Paths.{IsComponent, IsPath, IsWithinLimits, joined, components_of, strip_prefix, is_path};
-ghost use Rattle.git_paths.specs.Quoting.{quoted};
-ghost use Rattle.git_paths.specs.Written.{BeginsWith, shown};
-ghost use Rattle.git_paths.specs.Reading.{path_at, canonical_path};
+ghost use Rattle.std.specs.Prelude.{◌≡◌, ◌↔◌, List, ℕ, [], ◌∷◌, ◌++◌, length, IsTrue, IfOk, IfSome};
+ghost use Rattle.std.specs.Prelude.{OnOk, OnErr, Ok, Some, is_some, true};
+ghost use Rattle.git_paths.specs.{Faults.{Gives}, Paths.{strip_prefix, is_path}, Quoting.{quoted}};
+ghost use Rattle.git_paths.specs.Paths.{IsComponent, IsPath, IsWithinLimits, joined, components_of};
+ghost use Rattle.git_paths.specs.{Written.{BeginsWith, shown}, Reading.{path_at, canonical_path}};
 
 use crate::components::Components;
 use crate::fault::Fault;

@@ -1,7 +1,6 @@
 //! Paths and their prefixes, by their bytes.
 
-ghost use Rattle.std.specs.Prelude.{◌≡◌, ◌++◌, IfOk, is_some};
-ghost use Rattle.std.specs.Option.{option_map};
+ghost use Rattle.std.specs.{Prelude.{◌≡◌, IfOk}, Option.{option_map}};
 ghost use Rattle.git_paths.specs.Paths.{IsPath, components_of, strip_prefix, joined_both};
 
 use git_model::Memory;

@@ -2,8 +2,7 @@
 //!
 //! The bytes may be those of a path or of one entry's name.
 
-ghost use Rattle.std.specs.Prelude.{◌≡◌, [], ◌∷◌, ◌++◌, take, vec_len, OnOk, OnErr};
-ghost use Rattle.std.specs.List.{flat_map};
+ghost use Rattle.std.specs.Prelude.{◌≡◌, ◌++◌, take, vec_len, OnOk, OnErr};
 ghost use Rattle.git_paths.specs.Quoting.{letter_of_byte, is_special, escape, in_quotes, quoted};
 
 use crate::letters::LETTERS;
@@ -12,8 +11,8 @@ use git_model::Memory;
 fn letter_of(byte: u8) -> Option<u8>
     ensures { result ≡ letter_of_byte byte }
 {
-    let entry = LETTERS.iter().find(|entry| entry.1 == byte)?;
-    Some(entry.0)
+    let entry = LETTERS.iter().find(|entry| entry.1 == byte);
+    entry.map(|entry| entry.0)
 }
 
 fn must_quote(byte: u8) -> bool

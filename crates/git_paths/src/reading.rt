@@ -2,10 +2,9 @@
 
 ghost use Rattle.std.specs.Prelude.{◌≡◌, ◌<◌, ◌==◌, length, position, IfSome};
 ghost use Rattle.std.specs.Option.{option_copied, option_map, ok_or};
-ghost use Rattle.git_paths.specs.declared.fault.Fault.TheVariants.{BadPath};
-ghost use Rattle.git_paths.specs.Faults.{Gives};
-ghost use Rattle.git_paths.specs.Written.{bytes_shown};
-ghost use Rattle.git_paths.specs.Reading.{after_quote, unquoted, unquoted_at, quoted_end, judged, path_at};
+ghost use Rattle.git_paths.specs.{declared.fault.Fault.TheVariants.{BadPath}, Faults.{Gives}};
+ghost use Rattle.git_paths.specs.{Written.{bytes_shown}, Reading.{path_at}};
+ghost use Rattle.git_paths.specs.Reading.{after_quote, unquoted, unquoted_at, quoted_end, judged};
 
 use crate::fault::Fault;
 use crate::judging::judge;

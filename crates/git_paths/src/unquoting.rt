@@ -2,8 +2,7 @@
 
 ghost use Rattle.std.specs.Prelude.{◌≡◌, ◌≢◌, ◌<◌, ◌≤◌, ◌∷◌, length, IfSome, IfNone, true, false};
 ghost use Rattle.std.specs.Option.{ok_or};
-ghost use Rattle.git_paths.specs.declared.fault.Fault.TheVariants.{BadPath};
-ghost use Rattle.git_paths.specs.Faults.{Gives};
+ghost use Rattle.git_paths.specs.{declared.fault.Fault.TheVariants.{BadPath}, Faults.{Gives}};
 ghost use Rattle.git_paths.specs.Quoting.{byte_of_letter, octal_value};
 ghost use Rattle.git_paths.specs.Reading.{unquoted, escaped, octals, are_octal, TakesByte};
 
@@ -14,8 +13,8 @@ use std::alloc::Global;
 fn byte_of(letter: u8) -> Option<u8>
     ensures { result ≡ byte_of_letter letter }
 {
-    let entry = LETTERS.iter().find(|entry| entry.0 == letter)?;
-    Some(entry.1)
+    let entry = LETTERS.iter().find(|entry| entry.0 == letter);
+    entry.map(|entry| entry.1)
 }
 
 fn octal_of(x: u8, y: u8, z: u8) -> Option<u8>
@@ -79,7 +78,7 @@ pub(crate) fn unquote(alloc: Global, text: &[u8]) -> Result<(Vec<u8>, &[u8]), Fa
             return Ok((bytes, remaining));
         }
         let (byte, after) = byte_at(*first, remaining).ok_or(Fault::BadPath)?;
-        bytes.push(byte)?;
+        bytes.push(byte).or(Err(Fault::Memory))?;
         rest = after;
     }
     Err(Fault::BadPath)

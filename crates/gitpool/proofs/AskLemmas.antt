@@ -11,9 +11,10 @@ use Rattle.tenant_service.specs.Alone.{Ask, State, added, answered, asked, last_
 use Rattle.tenant_service.specs.Headline.{Response, response_in, IsIsolated, IsRefused, has_bad_name, call_of, stop_told}
 use Rattle.tenant_service.specs.TenantState.{TenantStates, Represents, held_of}
 use Rattle.tenant_service.specs.StepName.{name_of}
-use Rattle.gitpool.specs.declared.ask_fault.AskFault.{AskFault}
-use Rattle.gitpool.specs.declared.ask_fault.AskFault.TheVariants as fault
-use Rattle.gitpool.specs.Asking.{as_asked, IsAsked, Asks}
+use Rattle.gitpool.specs.declared.step_fault.StepFault.{StepFault}
+use Rattle.gitpool.specs.declared.step_fault.StepFault.TheVariants as fault
+use Rattle.gitpool.specs.Asking.{IsAsked, Asks}
+use Rattle.gitpool.specs.StepFaults.{as_result}
 use Rattle.gitpool.proofs.StepLemmas.{called-alone}
 
 -- ---- what it is told
@@ -32,13 +33,13 @@ no-reply query stop r state a other = by stop
     by (Some zero) e = refl
     by (Some (suc n)) e = told _ e
 
-pub asked-ok : (a : Answer) (u : Unit {0}) → Ok u ≡ as_asked a → a ≡ answer.Ok
+pub asked-ok : (a : Answer) (u : Unit {0}) → Ok u ≡ as_result a → a ≡ answer.Ok
 asked-ok answer.Ok u e = refl
 asked-ok (answer.Fault code) u e = cc e
 asked-ok (answer.Memory items) u e = cc e
 
 -- no answer of a step blames the device
-never-device : (a : Answer) → Err fault.Device ≡ as_asked a → ⊥
+never-device : (a : Answer) → Err fault.Device ≡ as_result a → ⊥
 never-device answer.Ok e = cc e
 never-device (answer.Fault code) e = cc e
 never-device (answer.Memory items) e = cc e
@@ -77,20 +78,20 @@ module _ (digest : List ℕ → List ℕ) (tenant query : List ℕ) (s : Step) (
   }
 
   -- it was refused, or memory ran out
-  pub asks-refused : (state : State) (writer : Device) (e : AskFault) → Represents digest state (held_of tenant before) → Err e ≡ as_asked a
+  pub asks-refused : (state : State) (writer : Device) (e : StepFault) → Represents digest state (held_of tenant before) → Err e ≡ as_result a
       → Asks digest tenant query before after writer writer (Err e)
   asks-refused state writer e leads told = by e told
     where
-      silent : (f : AskFault) → Err f ≡ as_asked a → IsAsked digest tenant query before after a []
+      silent : (f : StepFault) → Err f ≡ as_result a → IsAsked digest tenant query before after a []
       silent f told = is-asked a [] refl (ask-silent state leads (λ ok.
-          let no : ◌≡◌ {A = Result Unit AskFault} (Err f) (Ok tt) = told ∙ ap as_asked ok in cc no))
+          let no : ◌≡◌ {A = Result Unit StepFault} (Err f) (Ok tt) = told ∙ ap as_result ok in cc no))
 
-      by : (f : AskFault) → Err f ≡ as_asked a
+      by : (f : StepFault) → Err f ≡ as_result a
           → Asks digest tenant query before after writer writer (Err f)
-      by (fault.Step code) told = record {
+      by (fault.Refused code) told = record {
         answer = a;
         reply = [];
-        asked = silent (fault.Step code) told;
+        asked = silent (fault.Refused code) told;
         told = sym told;
         written = (refl, refl);
       }
@@ -122,6 +123,6 @@ module _ (digest : List ℕ → List ℕ) (tenant query : List ℕ) (s : Step) (
         answer = a;
         reply = out';
         asked = is-asked a out' refl refl;
-        told = ap as_asked ok;
+        told = ap as_result ok;
         written = (written, well);
       }

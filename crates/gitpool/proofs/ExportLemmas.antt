@@ -13,8 +13,8 @@ use Rattle.export_laws.specs.Ends.{IsImported as IsWellImported}
 use Rattle.export_laws.proofs.EndImported.{export-imported}
 use Rattle.tenant_service.specs.TenantState.{empty_repository}
 use Rattle.tenant_service.proofs.ExportLemmas.{EndsWell, export-ends}
-use Rattle.gitpool.specs.declared.import_fault.ImportFault.{ImportFault}
-use Rattle.gitpool.specs.declared.import_fault.ImportFault.TheVariants as fault
+use Rattle.gitpool.specs.declared.step_fault.StepFault.{StepFault}
+use Rattle.gitpool.specs.declared.step_fault.StepFault.TheVariants as fault
 use Rattle.gitpool.specs.Import.{IsImported, IsGivenUp, IsStopped, IsSettled, Imports, AnyEffect, end_of, outcome_of, printed_by, printed_so_far}
 use Rattle.gitpool.specs.Exports.{HasExport, TakesExport}
 use Rattle.gitpool.proofs.StreamLemmas.{stream-first}
@@ -121,18 +121,18 @@ module _ (digest : List ℕ → List ℕ) (names : AnswersNames digest) (reposit
       let p = part text reader.known reader'.known s.bytes has s.read.consumed in
       front-none writer.known writer'.known (outcome_of digest s.bytes).replies (none-printed s.bytes p.rest p.parts) s.written
 
-  takes : (reader reader' writer writer' : Device) (answer : Result Unit ImportFault) → HasExport reader.known repository
+  takes : (reader reader' writer writer' : Device) (answer : Result Unit StepFault) → HasExport reader.known repository
       → Imports digest reader reader' writer writer' answer → TakesExport digest repository writer writer' answer
   takes reader reader' writer writer' (Ok u) has i =
       record { accepted = tt; silent = (import-well reader reader' writer writer' None has i).1; copy = copied }
-  takes reader reader' writer writer' (Err (fault.Stream code)) has i =
+  takes reader reader' writer writer' (Err (fault.Refused code)) has i =
       let refused : ◌≡◌ {A = Option ℕ} (Some code) None = (import-well reader reader' writer writer' (Some code) has i).0 in cc refused
   takes reader reader' writer writer' (Err fault.Device) has i =
       record { accepted = tt; silent = given-up reader reader' writer writer' has i; copy = copied }
   takes reader reader' writer writer' (Err fault.Memory) has i =
       record { accepted = tt; silent = stopped reader reader' writer writer' has i; copy = copied }
 
-pub takes-export : (digest : List ℕ → List ℕ) → AnswersNames digest → (reader reader' writer writer' : Device) (answer : Result Unit ImportFault)
+pub takes-export : (digest : List ℕ → List ℕ) → AnswersNames digest → (reader reader' writer writer' : Device) (answer : Result Unit StepFault)
     → Imports digest reader reader' writer writer' answer → (repository : Repository) → IsSoundRepository digest repository
     → CanBeCopied repository → HasExport reader.known repository → TakesExport digest repository writer writer' answer
 takes-export digest names reader reader' writer writer' answer imports repository sound can has =

@@ -15,9 +15,9 @@ use Rattle.tenant_service.specs.Alone.{Open, Feed, End, stream_of}
 use Rattle.tenant_refs.specs.TenantName.{is_tenant_name}
 use Rattle.tenant_service.specs.TenantState.{TenantStates, empty_repository, held_of}
 use Rattle.tenant_service.specs.HeldObjects.{has_read_done}
-use Rattle.gitpool.specs.declared.import_fault.ImportFault.{ImportFault}
-use Rattle.gitpool.specs.declared.import_fault.ImportFault.TheVariants as fault
-use Rattle.gitpool.specs.ImportFaults.{as_import}
+use Rattle.gitpool.specs.declared.step_fault.StepFault.{StepFault}
+use Rattle.gitpool.specs.declared.step_fault.StepFault.TheVariants as fault
+use Rattle.gitpool.specs.StepFaults.{as_result}
 use Rattle.gitpool.specs.Devices.{AreWell}
 use Rattle.gitpool.specs.Import.{ServiceEffect, HasAsked, IsImported, IsGivenUp, IsStopped, IsDevice, AsksForMore, ImportsInto, end_in}
 use Rattle.gitpool.specs.Importing.{CanOpen, HasImported, HasTakenCalls, HasFed, Fed, IsStreaming, Passes, IsRefusedWith, IsWrittenFront, PassesOn, IsReadThrough, IsEndWritten, EndsImport, ReadsAll, GivesUp, replies_to}
@@ -200,11 +200,11 @@ module _ (digest : List ℕ → List ℕ) (tenant : List ℕ) (repository : Repo
     well = (gives.well.well ∙ s.well.0, f.1 ∙ s.well.1);
   }
 
-  pub imported_piece : (after : TenantStates) (r' w' : Device) (piece : List ℕ) (e : ImportFault) → count < 2 ^ 32 → HasGiven r r' piece
+  pub imported_piece : (after : TenantStates) (r' w' : Device) (piece : List ℕ) (e : StepFault) → count < 2 ^ 32 → HasGiven r r' piece
       → HasTakenCalls digest tenant now after (Feed piece ∷ [])
       → PassesOn digest tenant repository s.bytes piece w (Err e) after w'
       → ReadsAll digest tenant repository before r0 r' w0 (Err e) after w'
-  imported_piece after r' w' piece (fault.Stream code) few gives taken p = refused_piece after r' w' piece code few gives taken p
+  imported_piece after r' w' piece (fault.Refused code) few gives taken p = refused_piece after r' w' piece code few gives taken p
   imported_piece after r' w' piece fault.Device few gives taken p = unwritten after r' w' piece few gives taken p
   imported_piece after r' w' piece fault.Memory few gives taken p = stopped after r' w' piece few gives taken p
 
@@ -254,7 +254,7 @@ module _ (digest : List ℕ → List ℕ) (tenant : List ℕ) (repository : Repo
 pub passes_on : (digest : List ℕ → List ℕ) (tenant : List ℕ) (repository : Repository) (bytes piece : List ℕ) (w w' : Device) (a : Answer)
     (out : List ℕ) (before after : TenantStates) → IsStreaming digest tenant repository bytes before
     → FedAs digest repository bytes piece a out (held_of tenant after) → Appends w.known w'.known out → IsWell w w'
-    → PassesOn digest tenant repository bytes piece w (as_import a) after w'
+    → PassesOn digest tenant repository bytes piece w (as_result a) after w'
 passes_on digest tenant repository bytes piece w w' answer.Ok out before after streaming f written well = record {
   streaming = (streaming.0, f.0);
   written = subst (λ (l : List ℕ). Appends w.known w'.known l) f.1 written;
@@ -280,7 +280,7 @@ pass_fails digest tenant repository bytes piece w w' a out after f front failed 
 
 pub ends_import : (digest : List ℕ → List ℕ) (repository : Repository) (bytes : List ℕ) (w w' : Device) (a : Answer) (out : List ℕ)
     → EndedAs digest repository bytes a out → Appends w.known w'.known out → IsWell w w'
-    → EndsImport digest repository bytes w (as_import a) w'
+    → EndsImport digest repository bytes w (as_result a) w'
 ends_import digest repository bytes w w' answer.Ok out e written well = record {
   ended = e.0;
   written = subst (λ (l : List ℕ). Appends w.known w'.known l) e.1 written;
@@ -339,10 +339,10 @@ module _ (digest : List ℕ → List ℕ) (tenant : List ℕ) (repository : Repo
         blamed = inl (s.well.0, blamed);
       }
 
-  pub imported_end : (result : Result Unit ImportFault) → EndsImport digest repository s.bytes w result w'
+  pub imported_end : (result : Result Unit StepFault) → EndsImport digest repository s.bytes w result w'
       → ImportsInto digest repository (HasFed digest tenant before after) r0 r w0 w' result
   imported_end (Ok u) e = ends_as None e
-  imported_end (Err (fault.Stream code)) e = ends_as (Some code) e
+  imported_end (Err (fault.Refused code)) e = ends_as (Some code) e
   imported_end (Err fault.Device) e = end_unwritten e.0 e.1
   imported_end (Err fault.Memory) e = let replies = (stream_of digest repository s.bytes).replies in record {
     bytes = s.bytes;
@@ -404,11 +404,11 @@ stopped-effect digest repository D E r r' w w' so i = record {
   well = i.well;
 }
 
-pub imports-effect : (digest : List ℕ → List ℕ) (repository : Repository) (D E : ServiceEffect) (r r' w w' : Device) (result : Result Unit ImportFault)
+pub imports-effect : (digest : List ℕ → List ℕ) (repository : Repository) (D E : ServiceEffect) (r r' w w' : Device) (result : Result Unit StepFault)
     → ((ended : Bool) (bytes : List ℕ) → D ended bytes → E ended bytes)
     → ImportsInto digest repository D r r' w w' result → ImportsInto digest repository E r r' w w' result
 imports-effect digest repository D E r r' w w' (Ok u) so i = imported-effect digest repository D E r r' w w' None (so true) i
-imports-effect digest repository D E r r' w w' (Err (fault.Stream code)) so i =
+imports-effect digest repository D E r r' w w' (Err (fault.Refused code)) so i =
     imported-effect digest repository D E r r' w w' (Some code) (so true) i
 imports-effect digest repository D E r r' w w' (Err fault.Device) so i = record {
   bytes = i.bytes;
@@ -423,16 +423,16 @@ imports-effect digest repository D E r r' w w' (Err fault.Device) so i = record 
 imports-effect digest repository D E r r' w w' (Err fault.Memory) so i = stopped-effect digest repository D E r r' w w' so i
 
 -- what is done after a fault
-pub gives_up : (digest : List ℕ → List ℕ) (tenant : List ℕ) (before after : TenantStates) (e : ImportFault) → (e ≡ fault.Device → ⊥)
+pub gives_up : (digest : List ℕ → List ℕ) (tenant : List ℕ) (before after : TenantStates) (e : StepFault) → (e ≡ fault.Device → ⊥)
     → HasTakenCalls digest tenant before after (End ∷ []) → GivesUp digest tenant before after e
-gives_up digest tenant before after (fault.Stream code) other taken = taken
+gives_up digest tenant before after (fault.Refused code) other taken = taken
 gives_up digest tenant before after fault.Device other taken = absurd (other refl)
 gives_up digest tenant before after fault.Memory other taken = taken
 
 pub given_up_by : (digest : List ℕ → List ℕ) (tenant : List ℕ) (repository : Repository) (before between after : TenantStates) (r r' w w' : Device)
-    (e : ImportFault) → ReadsAll digest tenant repository before r r' w (Err e) between w' → GivesUp digest tenant between after e
+    (e : StepFault) → ReadsAll digest tenant repository before r r' w (Err e) between w' → GivesUp digest tenant between after e
     → ImportsInto digest repository (HasFed digest tenant before after) r r' w w' (Err e)
-given_up_by digest tenant repository before between after r r' w w' (fault.Stream code) i taken =
+given_up_by digest tenant repository before between after r r' w w' (fault.Refused code) i taken =
     imported-effect digest repository (Fed digest tenant before between) (HasFed digest tenant before after) r r' w w' (Some code)
     (λ bytes fed. fed-ended digest tenant before between after bytes fed taken) i
 given_up_by digest tenant repository before between after r r' w w' fault.Device i same =
@@ -465,7 +465,7 @@ nothing_read digest repository Effect r w fits effect = record {
 
 -- ---- Open, by its answer
 
-pub ok-answer : (a : Answer) → Ok tt ≡ as_import a → a ≡ answer.Ok
+pub ok-answer : (a : Answer) → Ok tt ≡ as_result a → a ≡ answer.Ok
 ok-answer answer.Ok e = refl
 ok-answer (answer.Fault code) e = cc e
 ok-answer (answer.Memory count) e = cc e
@@ -476,14 +476,14 @@ ok-not-fault a code ok fault =
 
 -- it ran out of memory, since no number refuses it
 pub open_fails : (digest : List ℕ → List ℕ) (tenant : List ℕ) (repository : Repository) (before after : TenantStates) (r w : Device) (a : Answer)
-    (e : ImportFault) → r.passed ≤ 2 ^ 64 - 1 → Err e ≡ as_import a → ((code : ℕ) → a ≡ answer.Fault code → ⊥)
+    (e : StepFault) → r.passed ≤ 2 ^ 64 - 1 → Err e ≡ as_result a → ((code : ℕ) → a ≡ answer.Fault code → ⊥)
     → HasTakenCalls digest tenant before after (Open ∷ [])
     → ImportsInto digest repository (HasImported digest tenant before after) r r w w (Err e)
 open_fails digest tenant repository before after r w answer.Ok e fits is unrefused taken =
-    let none : ◌≡◌ {A = Result Unit ImportFault} (Err e) (Ok tt) = is in cc none
+    let none : ◌≡◌ {A = Result Unit StepFault} (Err e) (Ok tt) = is in cc none
 open_fails digest tenant repository before after r w (answer.Fault code) e fits is unrefused taken = absurd (unrefused code refl)
 open_fails digest tenant repository before after r w (answer.Memory count) e fits is unrefused taken =
-    subst (λ (x : Result Unit ImportFault). ImportsInto digest repository (HasImported digest tenant before after) r r w w x) (sym is)
+    subst (λ (x : Result Unit StepFault). ImportsInto digest repository (HasImported digest tenant before after) r r w w x) (sym is)
     (nothing_read digest repository (HasImported digest tenant before after) r w fits (imported-none digest tenant before after taken))
 
 -- ---- a new service

@@ -9,20 +9,9 @@ use Rattle.tenant_service.specs.Alone.{Ask}
 use Rattle.tenant_service.specs.Copying.{IsCall}
 use Rattle.tenant_service.specs.Headline.{IsIsolated}
 use Rattle.tenant_service.specs.TenantState.{TenantStates, held_of}
-use Rattle.gitpool.specs.declared.ask_fault.AskFault.{AskFault}
-use Rattle.gitpool.specs.declared.ask_fault.AskFault.TheVariants as fault
-
--- The number of a fault.
-abbrev pub code_of : AskFault → ℕ
-code_of (fault.Step code) = code
-code_of fault.Device = 68
-code_of fault.Memory = 90
-
--- The answer of a step as a result of asking.
-abbrev pub as_asked : Answer → Result Unit AskFault
-as_asked answer.Ok = Ok tt
-as_asked (answer.Fault code) = Err (fault.Step code)
-as_asked (answer.Memory items) = Err fault.Memory
+use Rattle.gitpool.specs.declared.step_fault.StepFault.{StepFault}
+use Rattle.gitpool.specs.declared.step_fault.StepFault.TheVariants as fault
+use Rattle.gitpool.specs.StepFaults.{as_result}
 
 -- The service took one step: this query of this tenant, which got this answer and this reply. Every
 -- tenant was told what it is told in a repository of its own.
@@ -34,13 +23,13 @@ pub record IsAsked (digest : List ℕ → List ℕ) (tenant query : List ℕ) (b
       ((step, record { answer = answer; reply = reply }) ∷ []) (held_of name after)
 
 -- The result of asking is the answer of the step; or the query was answered, and a write failed.
-abbrev pub IsResultOf : Answer → Result Unit AskFault → Type 0
+abbrev pub IsResultOf : Answer → Result Unit StepFault → Type 0
 IsResultOf told (Err fault.Device) = told ≡ answer.Ok
-IsResultOf told result = as_asked told ≡ result
+IsResultOf told result = as_result told ≡ result
 
 -- What was written, by the result: exactly the reply, or a prefix of it if a write failed. If the
 -- query was refused, or memory ran out, there is no reply, and the writer is as it was.
-abbrev pub WritesReply : Result Unit AskFault → List ℕ → Device → Device → Type 0
+abbrev pub WritesReply : Result Unit StepFault → List ℕ → Device → Device → Type 0
 WritesReply (Ok u) reply writer writer' =
     Appends writer.known writer'.known reply × IsWell writer writer'
 WritesReply (Err fault.Device) reply writer writer' =
@@ -49,7 +38,7 @@ WritesReply (Err refusal) reply writer writer' = (reply ≡ []) × (writer' ≡ 
 
 -- What asking did: the service answered the query, and the reply was written.
 pub record Asks (digest : List ℕ → List ℕ) (tenant query : List ℕ) (before after : TenantStates)
-    (writer writer' : Device) (result : Result Unit AskFault) : Type 0 where
+    (writer writer' : Device) (result : Result Unit StepFault) : Type 0 where
   pub answer : Answer
   pub reply : List ℕ
   pub asked : IsAsked digest tenant query before after answer reply

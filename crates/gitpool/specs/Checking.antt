@@ -5,13 +5,8 @@ use Rattle.git_objects.specs.Device.{Device, HasFault, IsWell, AppendsFront}
 use Rattle.content_pool.specs.LiveContents.{stored_sizes}
 use Rattle.tenant_service.specs.HeldObjects.{held_contents, has_committed_object}
 use Rattle.tenant_service.specs.TenantState.{TenantStates}
-use Rattle.gitpool.specs.declared.check_fault.CheckFault.{CheckFault}
-use Rattle.gitpool.specs.declared.check_fault.CheckFault.TheVariants as fault
-
--- The number of a fault.
-abbrev pub code_of : CheckFault → ℕ
-code_of fault.Device = 68
-code_of fault.Memory = 90
+use Rattle.byte_devices.specs.declared.write_fault.WriteFault.{WriteFault}
+use Rattle.byte_devices.specs.declared.write_fault.WriteFault.TheVariants as fault
 
 -- The line of three numbers: how many distinct contents there are, the sum of their sizes in bytes,
 -- and how many tenants have an object.
@@ -26,7 +21,7 @@ stored_text all =
 
 -- What a check did, by its answer. Exactly this line was written, or a prefix of it if a write
 -- failed. If memory ran out, nothing was written.
-abbrev pub Checks : TenantStates → Device → Device → Result Unit CheckFault → Type 0
+abbrev pub Checks : TenantStates → Device → Device → Result Unit WriteFault → Type 0
 Checks all writer writer' (Ok u) =
     Appends writer.known writer'.known (stored_text all) × IsWell writer writer'
 Checks all writer writer' (Err fault.Device) =

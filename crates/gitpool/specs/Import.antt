@@ -5,8 +5,8 @@ use Rattle.git_model.specs.Limits.{reads_limit}
 use Rattle.git_model.specs.Repository.{Repository}
 use Rattle.git_objects.specs.Device.{Device, HasRead, IsWell, AppendsFront, counted_on}
 use Rattle.import_session.specs.Stream.{Outcome, StreamStatus, Runs, Refused, End, finished}
-use Rattle.gitpool.specs.declared.import_fault.ImportFault.{ImportFault}
-use Rattle.gitpool.specs.declared.import_fault.ImportFault.TheVariants as fault
+use Rattle.gitpool.specs.declared.step_fault.StepFault.{StepFault}
+use Rattle.gitpool.specs.declared.step_fault.StepFault.TheVariants as fault
 use Rattle.gitpool.specs.Devices.{AreWell, HasReadFailed, HasWriteFailed, AppendsAsFar}
 use Rattle.tenant_service.specs.Alone.{stream_of}
 use Rattle.tenant_service.specs.TenantState.{empty_repository}
@@ -107,10 +107,10 @@ pub record IsStopped (digest : List ℕ → List ℕ) (repository : Repository) 
 
 -- What an import did, by its answer.
 abbrev pub ImportsInto : (List ℕ → List ℕ) → Repository → ServiceEffect → Device → Device → Device
-    → Device → Result Unit ImportFault → Type 0
+    → Device → Result Unit StepFault → Type 0
 ImportsInto digest repository Effect reader reader' writer writer' (Ok u) =
     IsImported digest repository Effect reader reader' writer writer' None
-ImportsInto digest repository Effect reader reader' writer writer' (Err (fault.Stream code)) =
+ImportsInto digest repository Effect reader reader' writer writer' (Err (fault.Refused code)) =
     IsImported digest repository Effect reader reader' writer writer' (Some code)
 ImportsInto digest repository Effect reader reader' writer writer' (Err fault.Device) =
     IsGivenUp digest repository Effect reader reader' writer writer'
@@ -128,6 +128,6 @@ abbrev pub AnyEffect : ServiceEffect
 AnyEffect ended bytes = Unit {0}
 
 abbrev pub Imports : (List ℕ → List ℕ) → Device → Device → Device → Device
-    → Result Unit ImportFault → Type 0
+    → Result Unit StepFault → Type 0
 Imports digest reader reader' writer writer' answer =
     ImportsInto digest empty_repository AnyEffect reader reader' writer writer' answer

@@ -14,8 +14,8 @@ use Rattle.tenant_service.specs.Copying.{HasTaken}
 use Rattle.tenant_service.specs.Headline.{Run, call_of}
 use Rattle.tenant_service.specs.TenantState.{TenantState, Idle, Busy, TenantStates, Represents, held_of}
 use Rattle.tenant_service.specs.StepName.{name_of}
-use Rattle.gitpool.specs.declared.import_fault.ImportFault.{ImportFault}
-use Rattle.gitpool.specs.declared.import_fault.ImportFault.TheVariants as fault
+use Rattle.gitpool.specs.declared.step_fault.StepFault.{StepFault}
+use Rattle.gitpool.specs.declared.step_fault.StepFault.TheVariants as fault
 use Rattle.gitpool.specs.Devices.{AreWell}
 use Rattle.gitpool.specs.Import.{ServiceEffect, HasAsked, IsSettled, ImportsInto, IsGivenUp, end_in}
 
@@ -72,9 +72,9 @@ open_refusal tenant all =
 
 -- The Open was refused, and nothing was read or written.
 pub record IsUnopened (digest : List ℕ → List ℕ) (tenant : List ℕ) (before after : TenantStates)
-    (code : ℕ) (reader reader' writer writer' : Device) (answer : Result Unit ImportFault)
+    (code : ℕ) (reader reader' writer writer' : Device) (answer : Result Unit StepFault)
     : Type 0 where
-  pub answered : answer ≡ Err (fault.Stream code)
+  pub answered : answer ≡ Err (fault.Refused code)
   pub unread : reader' ≡ reader
   pub unwritten : writer' ≡ writer
   pub taken : HasTakenCalls digest tenant before after (Open ∷ [])
@@ -115,10 +115,10 @@ IsWrittenFront digest repository bytes piece writer writer' =
 
 -- What came of a piece, by the answer.
 abbrev pub PassesOn : (List ℕ → List ℕ) → List ℕ → Repository → List ℕ → List ℕ → Device
-    → Result Unit ImportFault → TenantStates → Device → Type 0
+    → Result Unit StepFault → TenantStates → Device → Type 0
 PassesOn digest tenant repository bytes piece writer (Ok u) after writer' =
     Passes digest tenant repository bytes piece writer after writer'
-PassesOn digest tenant repository bytes piece writer (Err (fault.Stream code)) after writer' =
+PassesOn digest tenant repository bytes piece writer (Err (fault.Refused code)) after writer' =
     IsRefusedWith digest repository bytes piece code writer writer'
 PassesOn digest tenant repository bytes piece writer (Err fault.Device) after writer' =
     IsWrittenFront digest repository bytes piece writer writer'
@@ -137,10 +137,10 @@ pub record IsEndWritten (digest : List ℕ → List ℕ) (repository : Repositor
 
 -- What came of the end, by the answer. If memory ran out, nothing was written for the end.
 abbrev pub EndsImport : (List ℕ → List ℕ) → Repository → List ℕ → Device
-    → Result Unit ImportFault → Device → Type 0
+    → Result Unit StepFault → Device → Type 0
 EndsImport digest repository bytes writer (Ok u) writer' =
     IsEndWritten digest repository bytes None writer writer'
-EndsImport digest repository bytes writer (Err (fault.Stream code)) writer' =
+EndsImport digest repository bytes writer (Err (fault.Refused code)) writer' =
     IsEndWritten digest repository bytes (Some code) writer writer'
 EndsImport digest repository bytes writer (Err fault.Device) writer' =
     AppendsFront writer.known writer'.known (end_in digest repository bytes).reply
@@ -150,8 +150,8 @@ EndsImport digest repository bytes writer (Err fault.Memory) writer' =
 
 -- A stream that was refused, or ran out of memory, is ended. If a device failed, it is left as it
 -- is.
-abbrev pub GivesUp : (List ℕ → List ℕ) → List ℕ → TenantStates → TenantStates → ImportFault → Type 0
-GivesUp digest tenant before after (fault.Stream code) =
+abbrev pub GivesUp : (List ℕ → List ℕ) → List ℕ → TenantStates → TenantStates → StepFault → Type 0
+GivesUp digest tenant before after (fault.Refused code) =
     HasTakenCalls digest tenant before after (End ∷ [])
 GivesUp digest tenant before after fault.Device = after ≡ before
 GivesUp digest tenant before after fault.Memory =
@@ -178,7 +178,7 @@ Fed digest tenant before after ended bytes = HasFed digest tenant before after f
 
 -- What came of reading, by the answer.
 abbrev pub ReadsAll : (List ℕ → List ℕ) → List ℕ → Repository → TenantStates → Device → Device
-    → Device → Result Unit ImportFault → TenantStates → Device → Type 0
+    → Device → Result Unit StepFault → TenantStates → Device → Type 0
 ReadsAll digest tenant repository before reader reader' writer (Ok u) after writer' =
     IsReadThrough digest tenant repository before reader reader' writer after writer'
 ReadsAll digest tenant repository before reader reader' writer (Err fault.Device) after writer' =

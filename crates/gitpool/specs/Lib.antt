@@ -24,7 +24,7 @@ pub use Rattle.tenant_service.specs.Saved
 pub use Rattle.tenant_service.specs.Copying
 pub use Rattle.tenant_service.specs.Copies
 pub use Rattle.tenant_service.specs.Tenants
-pub mod ImportFaults
+pub mod StepFaults
 pub mod Devices
 pub mod Import
 pub mod Exports
@@ -37,7 +37,6 @@ pub mod Packing
 pub mod Revisions
 pub mod Packs
 pub mod RevisionReading
-pub mod SaveFaults
 pub mod Places
 pub mod Requests
 pub mod Hosting

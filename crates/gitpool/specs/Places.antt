@@ -1,7 +1,7 @@
 -- A pool file that is replaced as a whole: its bytes, where they are known.
 use Rattle.std.specs.Prelude.{◌≡◌, ℕ, List, Option, None, Some, Result, Ok, Err}
 use Rattle.std.specs.Io.KnownBytes.{Keeps}
-use Rattle.gitpool.specs.declared.save_fault.SaveFault.{SaveFault}
+use Rattle.byte_devices.specs.declared.write_fault.WriteFault.{WriteFault}
 
 -- If the bytes of the pool file are known, so are those of something else: just these.
 abbrev pub IsAsKnown : Option (List ℕ) → Option (List ℕ) → List ℕ → Type 0
@@ -15,6 +15,6 @@ IsPut (Some known) new after = after ≡ new
 
 -- After Ok the pool file is this text, and after a fault it is as it was; each if its bytes were
 -- known.
-abbrev pub Replaces : Option (List ℕ) → Result Unit SaveFault → Option (List ℕ) → List ℕ → Type 0
+abbrev pub Replaces : Option (List ℕ) → Result Unit WriteFault → Option (List ℕ) → List ℕ → Type 0
 Replaces old (Ok u) new text = IsAsKnown old new text
 Replaces old (Err fault) new text = Keeps old new

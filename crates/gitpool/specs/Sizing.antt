@@ -5,8 +5,8 @@ use Rattle.std.specs.Io.KnownBytes.{Appends}
 use Rattle.git_objects.specs.Device.{Device, HasFault, IsWell, AppendsFront}
 use Rattle.tenant_service.specs.Sizes.{Sizes, sizes_of}
 use Rattle.tenant_service.specs.TenantState.{TenantStates}
-use Rattle.gitpool.specs.declared.check_fault.CheckFault.{CheckFault}
-use Rattle.gitpool.specs.declared.check_fault.CheckFault.TheVariants as fault
+use Rattle.byte_devices.specs.declared.write_fault.WriteFault.{WriteFault}
+use Rattle.byte_devices.specs.declared.write_fault.WriteFault.TheVariants as fault
 
 -- What a line says after the name of the tenant.
 abbrev pub numbers_text : Sizes → List ℕ
@@ -24,7 +24,7 @@ sizes_text all = flat_map line_of (sizes_of all)
 
 -- What was written, by the answer: exactly these lines, or a prefix of them if a write failed. If
 -- memory ran out, nothing was written.
-abbrev pub WritesSizes : TenantStates → Device → Device → Result Unit CheckFault → Type 0
+abbrev pub WritesSizes : TenantStates → Device → Device → Result Unit WriteFault → Type 0
 WritesSizes all writer writer' (Ok u) =
     Appends writer.known writer'.known (sizes_text all) × IsWell writer writer'
 WritesSizes all writer writer' (Err fault.Device) =

@@ -4,7 +4,7 @@ ghost use Rattle.std.specs.Prelude.{◌≡◌, IfOk, string_bytes};
 ghost use Rattle.git_objects.specs.Device.{device_of, seen};
 ghost use Rattle.gitpool.specs.Checking.{check_text, Checks};
 
-use crate::check_fault::CheckFault;
+use byte_devices::WriteFault;
 use git_objects::{Counted, Naming, write_all};
 use std::alloc::{AllocError, Global};
 use std::io::Write;
@@ -22,13 +22,13 @@ fn check_text(alloc: Global, stored: (u64, u64), tenants: u64) -> Result<String,
 /// number of distinct contents, the sum of their sizes in bytes (`Service::stored`), and the number
 /// of tenants that have an object at their last checkpoint (`Service::tenants`).
 ///
-/// `CheckFault::Memory` (90): there was no memory for the line, and no call of the writer was made.
-/// `CheckFault::Device` (68): a call of the writer failed, and a prefix of the line is written.
+/// `WriteFault::Memory` (90): there was no memory for the line, and no call of the writer was made.
+/// `WriteFault::Device` (68): a call of the writer failed, and a prefix of the line is written.
 pub fn check<N: Naming, W: Write>(
     alloc: Global,
     service: &Service<N>,
     writer: &mut Counted<W>,
-) -> Result<(), CheckFault>
+) -> Result<(), WriteFault>
     ensures { Checks service.now
         (seen (W.contents (device_of writer.old)) writer.old)
         (seen (W.contents (device_of writer.new)) writer.new) result }

@@ -6,14 +6,13 @@
 ghost use Rattle.std.specs.Prelude.{◌≡◌, []};
 ghost use Rattle.git_objects.specs.Device.{device_of, seen};
 ghost use Rattle.pool_file.specs.Saves.{Saves};
-ghost use Rattle.gitpool.specs.Places.{Replaces};
+ghost use Rattle.gitpool.specs.{Places.{Replaces}, Hosting.{Hosts}};
 ghost use Rattle.gitpool.specs.Requests.{IsSaved, IsSized, Takes, hosted, pool_text, told_with};
-ghost use Rattle.gitpool.specs.Hosting.{Hosts};
 
 use crate::packing::{answer_entries, answer_missing};
 use crate::pool_place::PoolPlace;
-use crate::save_fault::SaveFault;
 use crate::sizing::append_sizes;
+use byte_devices::WriteFault;
 use git_objects::{Counted, Memory, Naming};
 use pool_file_format::{Fault as PoolFault, StreamingDigest};
 use service_steps::{Answer, FrameFault, Request, RequestFrames, SavedAs, write_answer};
@@ -45,7 +44,7 @@ fn save<N: StreamingDigest, P: PoolPlace>(
     service: &Service<N>,
     saved: SavedAs,
     place: &mut P,
-) -> Result<(), SaveFault>
+) -> Result<(), WriteFault>
     ensures { Replaces (P.file place.old) result (P.file place.new)
         (pool_text N.digest_of saved service.now) }
 {
@@ -60,11 +59,11 @@ fn save<N: StreamingDigest, P: PoolPlace>(
         Ok(()) => place.put_in_place(new),
         Err(PoolFault::Memory) => {
             place.give_up(new);
-            Err(SaveFault::Memory)
+            Err(WriteFault::Memory)
         }
         Err(_) => {
             place.give_up(new);
-            Err(SaveFault::Device)
+            Err(WriteFault::Device)
         }
     }
 }
@@ -80,7 +79,8 @@ fn answer_save<N: StreamingDigest, P: PoolPlace>(
 {
     match save(service, saved, place) {
         Ok(()) => Answer::Ok,
-        Err(fault) => fault.answer(),
+        Err(WriteFault::Device) => Answer::Fault(WriteFault::Device.code()),
+        Err(WriteFault::Memory) => Answer::Memory(0),
     }
 }
 

@@ -3,8 +3,7 @@
 ghost use Rattle.std.specs.Prelude.{ℕ, List, Result};
 ghost use Rattle.git_objects.specs.Device.{Device};
 ghost use Rattle.service_steps.specs.declared.frame_fault.FrameFault.{FrameFault};
-ghost use Rattle.gitpool.specs.Requests.{Hosted};
-ghost use Rattle.gitpool.specs.Hosting.{Hosts, IsOfSteps, ServesAlone};
+ghost use Rattle.gitpool.specs.{Requests.{Hosted}, Hosting.{Hosts, IsOfSteps, ServesAlone}};
 
 /// Without requests of the operator `host` does what `serve` does: whatever the contract of `host`
 /// says of a run that has steps alone, and after which no frame of the operator begins, the

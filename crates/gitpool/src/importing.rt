@@ -7,11 +7,11 @@ ghost use Rattle.std.specs.Io.KnownBytes.{Appends};
 ghost use Rattle.git_objects.specs.Device.{device_of, faults_of, AppendsFront, HasFault, seen};
 ghost use Rattle.git_model.specs.Repository.{Repository};
 ghost use Rattle.tenant_service.specs.Alone.{Open, Feed, End};
-ghost use Rattle.gitpool.specs.ImportFaults.{as_import};
-ghost use Rattle.gitpool.specs.Import.{ImportsInto};
-ghost use Rattle.gitpool.specs.Importing.{CanOpen, open_refusal, HasTakenCalls, HasFed, HasImported, IsUnopened, IsStreaming, PassesOn, ReadsAll, EndsImport, GivesUp};
+ghost use Rattle.gitpool.specs.{Import.{ImportsInto}, Importing.{EndsImport, GivesUp}};
+ghost use Rattle.gitpool.specs.Importing.{CanOpen, open_refusal, HasTakenCalls, HasFed};
+ghost use Rattle.gitpool.specs.Importing.{HasImported, IsUnopened, IsStreaming, PassesOn, ReadsAll};
 
-use crate::import_fault::ImportFault;
+use crate::step_fault::{StepFault, as_result};
 use git_objects::{Counted, DeviceFault, Naming, write_all};
 use service_steps::{Answer, Step};
 use std::alloc::Global;
@@ -23,17 +23,6 @@ const BLOCK: usize = 65_536;
 
 // How often a reader is called before it counts as one that never ends.
 const READS_LIMIT: u64 = 1 << 32;
-
-// The answer of a step as a result of the import.
-fn as_import(answer: Answer) -> Result<(), ImportFault>
-    ensures { result ≡ as_import answer }
-{
-    match answer {
-        Answer::Ok => Ok(()),
-        Answer::Fault(code) => Err(ImportFault::Stream(code)),
-        Answer::Memory(_) => Err(ImportFault::Memory),
-    }
-}
 
 // Writes the replies in `out`, and empties it.
 fn write_replies<W: Write>(writer: &mut Counted<W>, out: &mut Vec<u8>) -> Result<(), DeviceFault>
@@ -57,7 +46,7 @@ fn pass_on<N: Naming, W: Write>(
     piece: &[u8],
     writer: &mut Counted<W>,
     out: &mut Vec<u8>,
-) -> Result<(), ImportFault>
+) -> Result<(), StepFault>
     requires emptied { out.old.items ≡ [] }
     ensures emptied { OnOk result (out.new.items ≡ []) }
     ensures taken { HasTakenCalls N.digest_of tenant.now service.old service.new
@@ -71,7 +60,7 @@ fn pass_on<N: Naming, W: Write>(
     let bytes = piece;
     let fed = service.step(Step::Feed { tenant, bytes }, out);
     write_replies(writer, out)?;
-    as_import(fed)
+    as_result(fed)
 }
 
 // Reads pieces and passes them on, until the input ends or `done` was read.
@@ -81,7 +70,7 @@ fn read_all<N: Naming, R: Read, W: Write>(
     reader: &mut Counted<R>,
     writer: &mut Counted<W>,
     out: &mut Vec<u8>,
-) -> Result<(), ImportFault>
+) -> Result<(), StepFault>
     requires emptied { out.old.items ≡ [] }
     ensures emptied { OnOk result (out.new.items ≡ []) }
     ensures read { (repository : Repository)
@@ -97,7 +86,7 @@ fn read_all<N: Naming, R: Read, W: Write>(
     for _ in 0..READS_LIMIT {
         let n = match reader.read(&mut block) {
             Ok(n) => n,
-            Err(_) => return Err(ImportFault::Device),
+            Err(_) => return Err(StepFault::Device),
         };
         if n == 0 {
             return Ok(());
@@ -107,7 +96,7 @@ fn read_all<N: Naming, R: Read, W: Write>(
             return Ok(());
         }
     }
-    Err(ImportFault::Device)
+    Err(StepFault::Device)
 }
 
 // Ends the stream, and writes the reply of its end.
@@ -116,7 +105,7 @@ fn end<N: Naming, W: Write>(
     tenant: &[u8],
     writer: &mut Counted<W>,
     out: &mut Vec<u8>,
-) -> Result<(), ImportFault>
+) -> Result<(), StepFault>
     requires emptied { out.old.items ≡ [] }
     ensures taken { HasTakenCalls N.digest_of tenant.now service.old service.new (End ∷ []) }
     ensures ended { (repository : Repository) (bytes : List ℕ)
@@ -127,21 +116,16 @@ fn end<N: Naming, W: Write>(
 {
     let ended = service.step(Step::End { tenant }, out);
     write_replies(writer, out)?;
-    as_import(ended)
+    as_result(ended)
 }
 
 // Ends a stream that was refused, or ran out of memory. Such an end prints nothing. If a device
 // failed, the stream is left as it is.
-fn give_up<N: Naming>(
-    service: &mut Service<N>,
-    tenant: &[u8],
-    out: &mut Vec<u8>,
-    fault: ImportFault,
-)
+fn give_up<N: Naming>(service: &mut Service<N>, tenant: &[u8], out: &mut Vec<u8>, fault: StepFault)
     ensures { GivesUp N.digest_of tenant.now service.old service.new fault }
 {
     match fault {
-        ImportFault::Device => {}
+        StepFault::Device => {}
         _ => {
             let _told = service.step(Step::End { tenant }, out);
         }
@@ -155,7 +139,7 @@ fn carry_out<N: Naming, R: Read, W: Write>(
     reader: &mut Counted<R>,
     writer: &mut Counted<W>,
     out: &mut Vec<u8>,
-) -> Result<(), ImportFault>
+) -> Result<(), StepFault>
     requires emptied { out.old.items ≡ [] }
     ensures { (repository : Repository)
         → IsStreaming N.digest_of tenant.now repository [] service.old
@@ -181,18 +165,18 @@ fn carry_out<N: Naming, R: Read, W: Write>(
 /// then nothing more is read. After a call of a device fails, no further call is made. The service
 /// takes these steps of the tenant and no others.
 ///
-/// `ImportFault::Stream`: 32 if the tenant's name is bad, and 31 if the tenant has a stream, even a
+/// `StepFault::Refused`: 32 if the tenant's name is bad, and 31 if the tenant has a stream, even a
 /// dead one. Then nothing was read, and nothing has changed. Any other number is the fault of the
 /// stream or of its end. Then exactly the replies before it are written, and the tenant is at its
 /// last checkpoint and has no stream.
 ///
-/// `ImportFault::Device` (68): a call of the reader or the writer failed, or 2^32 reads have not
+/// `StepFault::Device` (68): a call of the reader or the writer failed, or 2^32 reads have not
 /// come to the end. A prefix of the replies to what was read is written, and all of them if no
 /// write failed. They include the reply of the end if the stream came to its end. The stream is
 /// left as it is: an End saves what it read, and a Restart gives it up. If the write of the reply
 /// of the end failed, the stream has ended.
 ///
-/// `ImportFault::Memory` (90): memory ran out after a prefix of the replies was written, and no
+/// `StepFault::Memory` (90): memory ran out after a prefix of the replies was written, and no
 /// call failed. The tenant is at its last checkpoint and has no stream.
 pub fn import<N: Naming, R: Read, W: Write>(
     alloc: Global,
@@ -200,7 +184,7 @@ pub fn import<N: Naming, R: Read, W: Write>(
     tenant: &[u8],
     reader: &mut Counted<R>,
     writer: &mut Counted<W>,
-) -> Result<(), ImportFault>
+) -> Result<(), StepFault>
     ensures imported { (repository : Repository) → CanOpen tenant.now service.old repository
         → ImportsInto N.digest_of repository
         (HasImported N.digest_of tenant.now service.old service.new)
@@ -219,6 +203,6 @@ pub fn import<N: Naming, R: Read, W: Write>(
     let _passed = reader.passed();
     let mut out = Vec::new(alloc);
     let opened = service.step(Step::Open { tenant }, &mut out);
-    as_import(opened)?;
+    as_result(opened)?;
     carry_out(service, tenant, reader, writer, &mut out)
 }

@@ -11,27 +11,23 @@
 //! every type that their signatures name.
 #![tactic(auto)]
 
-mod ask_fault;
 mod asking;
-mod check_fault;
 mod checking;
 mod hosting;
 mod hosting_laws;
-mod import_fault;
 mod importing;
 pub mod laws;
 mod pack_lines;
 mod pack_writing;
 mod packing;
 mod pool_place;
-mod save_fault;
 mod serving;
 mod single_import;
 mod sizing;
+mod step_fault;
 
-pub use ask_fault::AskFault;
 pub use asking::ask;
-pub use check_fault::CheckFault;
+pub use byte_devices::WriteFault;
 pub use checking::check;
 pub use command_lines::{Line, VERSION};
 pub use content_pool::{Pool, Slot};
@@ -39,16 +35,15 @@ pub use git_objects::{
     Counted, DeviceFault, Kind, Memory, Name, Naming, Sha1Naming, TailNaming, write_all,
 };
 pub use hosting::host;
-pub use import_fault::ImportFault;
 pub use importing::import;
 pub use pack_writing::pack;
 pub use pool_file_format::{DigestState, Fault as PoolFault, Refusal, StreamingDigest};
 pub use pool_place::PoolPlace;
-pub use save_fault::SaveFault;
 pub use service_steps::{Answer, FrameFault, Reply, Request, SavedAs, ServiceFault, Step};
 pub use serving::{serve, serve_noting};
 pub use single_import::{import_new, import_one};
 pub use sizing::sizes;
+pub use step_fault::StepFault;
 pub use tenant_refs::Refs;
 pub use tenant_service::{ExtractFault, MissingObject, PackFault, Service, TenantSizes};
 pub use tenant_tables::{Found, Sight, Summary, Table};

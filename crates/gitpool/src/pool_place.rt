@@ -7,7 +7,7 @@ ghost use Rattle.std.specs.Prelude.{ℕ, List, [], None, Option, OnErr, OnOk, If
 ghost use Rattle.std.specs.Io.KnownBytes.{Keeps};
 ghost use Rattle.gitpool.specs.Places.{IsAsKnown, IsPut};
 
-use crate::save_fault::SaveFault;
+use byte_devices::WriteFault;
 use std::io::Write;
 
 /// A place where a pool file is kept, and replaced as a whole.
@@ -19,14 +19,14 @@ pub trait PoolPlace {
     ghost file: { Self → Option (List ℕ) } = { λ _. None };
 
     /// Makes an empty new file. The pool file stays as it is.
-    fn begin(&mut self) -> Result<Self::NewFile, SaveFault>
+    fn begin(&mut self) -> Result<Self::NewFile, WriteFault>
         ensures kept { Keeps (file self.old) (file self.new) }
         ensures empty { IfOk result (λ new. IsAsKnown (file self.old)
             (Self.NewFile.contents new) []) };
 
     /// Puts the new file in the place of the pool file, once it is on the disk. After an error the
-    /// pool file is as it was, and the new file is gone; see `SaveFault` for a file of a disk.
-    fn put_in_place(&mut self, new: Self::NewFile) -> Result<(), SaveFault>
+    /// pool file is as it was, and the new file is gone; see `WriteFault` for a file of a disk.
+    fn put_in_place(&mut self, new: Self::NewFile) -> Result<(), WriteFault>
         ensures put { OnOk result (IsPut (file self.old) (Self.NewFile.contents new)
             (file self.new)) }
         ensures kept { OnErr result (Keeps (file self.old) (file self.new)) };

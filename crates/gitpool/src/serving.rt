@@ -5,8 +5,7 @@
 
 ghost use Rattle.std.specs.Prelude.{◌≡◌, ℕ, List, [], false, true};
 ghost use Rattle.git_objects.specs.Device.{device_of, seen};
-ghost use Rattle.tenant_service.specs.Kept.{is_ask};
-ghost use Rattle.tenant_service.specs.TenantState.{held_of};
+ghost use Rattle.tenant_service.specs.{Kept.{is_ask}, TenantState.{held_of}};
 ghost use Rattle.gitpool.specs.Serving.{Serves};
 
 use git_objects::{Counted, Naming};

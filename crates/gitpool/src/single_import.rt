@@ -4,11 +4,10 @@ ghost use Rattle.git_objects.specs.Device.{device_of, seen};
 ghost use Rattle.git_model.specs.Repository.{Repository};
 ghost use Rattle.import_session.specs.Sound.{IsSoundRepository};
 ghost use Rattle.export_laws.specs.Copies.{CanBeCopied};
-ghost use Rattle.gitpool.specs.Exports.{HasExport, TakesExport};
-ghost use Rattle.gitpool.specs.Import.{Imports};
+ghost use Rattle.gitpool.specs.{Exports.{HasExport, TakesExport}, Import.{Imports}};
 
-use crate::import_fault::ImportFault;
 use crate::importing::import;
+use crate::step_fault::StepFault;
 use git_objects::{Counted, Naming};
 use std::alloc::Global;
 use std::io::{Read, Write};
@@ -26,7 +25,7 @@ pub fn import_new<N: Naming, R: Read, W: Write>(
     naming: N,
     reader: &mut Counted<R>,
     writer: &mut Counted<W>,
-) -> (Service<N>, Result<(), ImportFault>)
+) -> (Service<N>, Result<(), StepFault>)
     ensures imported { Imports N.digest_of
         (seen (R.remaining (device_of reader.old)) reader.old)
         (seen (R.remaining (device_of reader.new)) reader.new)
@@ -50,23 +49,23 @@ pub fn import_new<N: Naming, R: Read, W: Write>(
 /// fault; then nothing more is read. After a call of a device fails, no further call is made. It is
 /// `import` for a tenant of a new service, and nothing of it is kept.
 ///
-/// `ImportFault::Stream`: the stream or its end is refused under this number; exactly the replies
-/// before that are written. `ImportFault::Device` (68): a call of the reader or the writer failed,
+/// `StepFault::Refused`: the stream or its end is refused under this number; exactly the replies
+/// before that are written. `StepFault::Device` (68): a call of the reader or the writer failed,
 /// or 2^32 reads have not come to the end. Then a prefix of the replies to what was read is
 /// written, and all of them if no write failed. They include the reply of the end if the stream
-/// came to its end. `ImportFault::Memory` (90): memory ran out after a prefix of the replies was
+/// came to its end. `StepFault::Memory` (90): memory ran out after a prefix of the replies was
 /// written, and no call failed.
 ///
 /// Give it the export of a good repository, from a reader that has that text and nothing after it.
-/// If each line and each data of the text fits into a stream, and the refs are few enough for an
-/// export and reach at most 65,536 tags, the stream is never refused and nothing is written; at its
-/// end it leaves a copy (`exports`).
+/// If each object of the repository fits into a stream, reached by a ref or not, and the refs are
+/// few enough for an export and reach at most 65,536 tags, the stream is never refused and nothing
+/// is written; at its end it leaves a copy (`exports`).
 pub fn import_one<N: Naming, R: Read, W: Write>(
     alloc: Global,
     naming: N,
     reader: &mut Counted<R>,
     writer: &mut Counted<W>,
-) -> Result<(), ImportFault>
+) -> Result<(), StepFault>
     ensures imported { Imports N.digest_of
         (seen (R.remaining (device_of reader.old)) reader.old)
         (seen (R.remaining (device_of reader.new)) reader.new)

@@ -1,12 +1,11 @@
 //! What each tenant has, as lines. This is for the operator.
 
-ghost use Rattle.std.specs.Prelude.{◌≡◌, ◌++◌, IfOk, OnOk, map, string_bytes};
-ghost use Rattle.std.specs.List.{flat_map};
+ghost use Rattle.std.specs.{Prelude.{◌≡◌, ◌++◌, IfOk, OnOk, map, string_bytes}, List.{flat_map}};
 ghost use Rattle.git_objects.specs.Device.{device_of, seen};
 ghost use Rattle.tenant_service.specs.Sizes.{sizes_told};
 ghost use Rattle.gitpool.specs.Sizing.{line_of, numbers_text, sizes_text, WritesSizes};
 
-use crate::check_fault::CheckFault;
+use byte_devices::WriteFault;
 use git_objects::{Counted, Memory, Naming, write_all};
 use std::alloc::{AllocError, Global};
 use std::io::Write;
@@ -55,14 +54,14 @@ pub(crate) fn append_sizes<N: Naming>(
 /// the same sum without the contents that another tenant has too, and how many refs
 /// (`Service::sizes`).
 ///
-/// `CheckFault::Memory` (90): there was no memory for the lines, and no call of the writer was
-/// made. `CheckFault::Device` (68): a call of the writer failed, and a prefix of the lines is
+/// `WriteFault::Memory` (90): there was no memory for the lines, and no call of the writer was
+/// made. `WriteFault::Device` (68): a call of the writer failed, and a prefix of the lines is
 /// written.
 pub fn sizes<N: Naming, W: Write>(
     alloc: Global,
     service: &Service<N>,
     writer: &mut Counted<W>,
-) -> Result<(), CheckFault>
+) -> Result<(), WriteFault>
     ensures { WritesSizes service.now
         (seen (W.contents (device_of writer.old)) writer.old)
         (seen (W.contents (device_of writer.new)) writer.new) result }
@@ -70,7 +69,7 @@ pub fn sizes<N: Naming, W: Write>(
     let mut text = Vec::new(alloc);
     match append_sizes(alloc, service, &mut text) {
         Ok(()) => {}
-        Err(Memory) => return Err(CheckFault::Memory),
+        Err(Memory) => return Err(WriteFault::Memory),
     }
     write_all(writer, &text)?;
     Ok(())

@@ -2,8 +2,7 @@
 //!
 //! A handle owns the box of a `Kept`, or nothing. The pointer of one that owns nothing is null.
 
-ghost use Rattle.std.specs.Prelude.{◌≡◌, Option, Some, None, IsSome, OnOk, OnErr};
-ghost use Rattle.std.specs.Coded.{codes};
+ghost use Rattle.std.specs.{Prelude.{◌≡◌, Option, Some, None, IsSome, OnOk, OnErr}, Coded.{codes}};
 ghost use Rattle.tenant_service.specs.HeldObjects.{ref_map_code};
 ghost use Rattle.file_maps.specs.FileMap.{file_map_code};
 ghost use Rattle.gitpool_c.specs.declared.kept.Kept.{Kept};
@@ -24,8 +23,7 @@ pub struct Handle {
 }
 
 impl Model for Handle {
-    ghost use Rattle.gitpool_c.specs.Held.{holds};
-    ghost use Rattle.gitpool_c.specs.contracts.kept.Kept.{the_row};
+    ghost use Rattle.gitpool_c.specs.{Held.{holds}, contracts.kept.Kept.{the_row}};
 
     ghost also_owns = { λ l. holds the_row l.at l.kept };
 }

@@ -3,8 +3,7 @@
 ghost use Rattle.std.specs.Prelude.{◌≡◌, IsSome};
 ghost use Rattle.sha1.specs.Sha1.{sha1};
 ghost use Rattle.tenant_service.specs.Removing.{abandon_refusal, answer_unless, removal_refusal};
-ghost use Rattle.gitpool_c.specs.Held.{service_in};
-ghost use Rattle.gitpool_c.specs.Numbers.{number_of};
+ghost use Rattle.gitpool_c.specs.{Held.{service_in}, Numbers.{number_of}};
 ghost use Rattle.gitpool_c.specs.Operating.{Copies, Compacts, IsAbandoned, IsRemoved};
 
 use crate::handle::{Handle, put, taken};

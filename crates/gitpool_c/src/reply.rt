@@ -2,9 +2,7 @@
 
 ghost use Rattle.std.specs.Prelude.{◌≡◌, ◌≢◌, None, IsSome, length, drop};
 ghost use Rattle.tenant_service.specs.Copies.{told_ok};
-ghost use Rattle.gitpool_c.specs.Held.{told_in};
-ghost use Rattle.gitpool_c.specs.Numbers.{items_of, number_of};
-ghost use Rattle.gitpool_c.specs.Reading.{HasRead};
+ghost use Rattle.gitpool_c.specs.{Held.{told_in}, Numbers.{items_of, number_of}, Reading.{HasRead}};
 
 use crate::handle::{Handle, fill, free, put, taken};
 use crate::kept::Kept;

@@ -3,12 +3,9 @@
 ghost use Rattle.std.specs.Prelude.{◌≡◌, ◌≢◌, [], None, IsSome, IfOk};
 ghost use Rattle.sha1.specs.Sha1.{sha1};
 ghost use Rattle.pool_file_checks.specs.Repositories.{file_text};
-ghost use Rattle.tenant_service.specs.Headline.{told_by_reply};
-ghost use Rattle.tenant_service.specs.Saved.{saved_of};
-ghost use Rattle.gitpool_c.specs.Held.{service_in, told_in};
-ghost use Rattle.gitpool_c.specs.Loads.{HasLoaded, LoadsBytes, Saves};
-ghost use Rattle.gitpool_c.specs.Numbers.{number_of};
-ghost use Rattle.gitpool_c.specs.Totals.{IsTotal};
+ghost use Rattle.tenant_service.specs.{Headline.{told_by_reply}, Saved.{saved_of}};
+ghost use Rattle.gitpool_c.specs.{Held.{service_in, told_in}, Loads.{HasLoaded, LoadsBytes, Saves}};
+ghost use Rattle.gitpool_c.specs.{Numbers.{number_of}, Totals.{IsTotal}};
 
 use crate::handle::{Handle, fill, free, put, taken};
 use crate::kept::Kept;

@@ -2,9 +2,9 @@
 
 ghost use Rattle.std.specs.Prelude.{◌≡◌, IsSome};
 ghost use Rattle.sha1.specs.Sha1.{sha1};
-ghost use Rattle.service_steps.specs.declared.step.Step.TheVariants as variant;
 ghost use Rattle.tenant_service.specs.Headline.{told_by_reply};
 ghost use Rattle.gitpool_c.specs.Steps.{HasStepped, Steps};
+ghost use Rattle.service_steps.specs.declared.step.Step.TheVariants as variant;
 
 use crate::handle::{Handle, put, taken};
 use crate::kept::Kept;

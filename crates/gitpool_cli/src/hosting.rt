@@ -3,8 +3,8 @@
 
 use crate::pools::{Missing, load, save_again};
 use crate::run_fault::RunFault;
-use gitpool::{Counted, PoolPlace, SaveFault, Service, Sha1Naming};
-use lock_files::{LockFault, LockFile, NextFile};
+use gitpool::{Counted, PoolPlace, Service, Sha1Naming, WriteFault};
+use lock_files::{LockFile, NextFile};
 use std::io::BufReader;
 use std::mem::forget;
 
@@ -15,29 +15,19 @@ struct LockedPlace<'a> {
     lock: &'a LockFile,
 }
 
-fn save_fault(fault: LockFault) -> SaveFault {
-    match fault {
-        LockFault::Device => SaveFault::Device,
-        LockFault::Memory => SaveFault::Memory,
-    }
-}
-
 impl<'a> PoolPlace for LockedPlace<'a> {
     type NewFile = NextFile;
 
-    fn begin(&mut self) -> Result<NextFile, SaveFault> {
-        match self.lock.next(self.rt) {
-            Ok(new) => Ok(new),
-            Err(fault) => Err(save_fault(fault)),
-        }
+    fn begin(&mut self) -> Result<NextFile, WriteFault> {
+        self.lock.next(self.rt)
     }
 
-    fn put_in_place(&mut self, new: NextFile) -> Result<(), SaveFault> {
+    fn put_in_place(&mut self, new: NextFile) -> Result<(), WriteFault> {
         match self.lock.replace_by(self.rt, &new) {
             Ok(()) => Ok(()),
             Err(fault) => {
                 new.remove(self.rt);
-                Err(save_fault(fault))
+                Err(fault)
             }
         }
     }

@@ -1,7 +1,6 @@
 //! Why a run failed, with the number of the fault and the exit status.
 
-use gitpool::{AskFault, CheckFault, ExtractFault, FrameFault, ImportFault, PackFault, PoolFault};
-use lock_files::LockFault;
+use gitpool::{ExtractFault, FrameFault, PackFault, PoolFault, StepFault, WriteFault};
 use std::alloc::AllocError;
 use std::io::ErrorKind;
 use std::{fmt, io};
@@ -18,10 +17,8 @@ const MEMORY: u8 = 5;
 /// The first fault of a run. Its text is `fault` and its number.
 #[derive(Clone, Copy)]
 pub enum RunFault {
-    /// A step was refused, under this number.
+    /// A step or a stream was refused, under this number.
     Step(u16),
-    /// A stream was refused, or not imported to its end.
-    Import(ImportFault),
     /// The frames of steps were refused.
     Frames(FrameFault),
     /// The pool file was refused, or not written.
@@ -38,7 +35,6 @@ impl RunFault {
     pub fn code(self) -> u16 {
         match self {
             RunFault::Step(code) => code,
-            RunFault::Import(fault) => fault.code(),
             RunFault::Frames(fault) => fault.code(),
             RunFault::Pool(fault) => fault.code(),
             RunFault::Device => 68,
@@ -65,21 +61,21 @@ impl fmt::Display for RunFault {
     }
 }
 
-impl From<AskFault> for RunFault {
-    fn from(fault: AskFault) -> RunFault {
+impl From<StepFault> for RunFault {
+    fn from(fault: StepFault) -> RunFault {
         match fault {
-            AskFault::Step(code) => RunFault::Step(code),
-            AskFault::Device => RunFault::Device,
-            AskFault::Memory => RunFault::Memory,
+            StepFault::Refused(code) => RunFault::Step(code),
+            StepFault::Device => RunFault::Device,
+            StepFault::Memory => RunFault::Memory,
         }
     }
 }
 
-impl From<CheckFault> for RunFault {
-    fn from(fault: CheckFault) -> RunFault {
+impl From<WriteFault> for RunFault {
+    fn from(fault: WriteFault) -> RunFault {
         match fault {
-            CheckFault::Device => RunFault::Device,
-            CheckFault::Memory => RunFault::Memory,
+            WriteFault::Device => RunFault::Device,
+            WriteFault::Memory => RunFault::Memory,
         }
     }
 }
@@ -119,15 +115,6 @@ impl From<io::Error> for RunFault {
     }
 }
 
-impl From<LockFault> for RunFault {
-    fn from(fault: LockFault) -> RunFault {
-        match fault {
-            LockFault::Device => RunFault::Device,
-            LockFault::Memory => RunFault::Memory,
-        }
-    }
-}
-
 impl From<PoolFault> for RunFault {
     fn from(fault: PoolFault) -> RunFault {
         RunFault::Pool(fault)
@@ -137,11 +124,5 @@ impl From<PoolFault> for RunFault {
 impl From<FrameFault> for RunFault {
     fn from(fault: FrameFault) -> RunFault {
         RunFault::Frames(fault)
-    }
-}
-
-impl From<ImportFault> for RunFault {
-    fn from(fault: ImportFault) -> RunFault {
-        RunFault::Import(fault)
     }
 }

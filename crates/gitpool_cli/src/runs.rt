@@ -52,7 +52,8 @@ fn leave(service: Service<Sha1Naming>) {
     forget(service);
 }
 
-// A run that saves. If another one works on the pool file, this one is refused (68).
+// A run that saves. If another one works on the pool file, this one is refused (68). If the pool
+// file is refused, the new file is removed.
 fn run_to_save(
     rt: &HostRuntime,
     line: Line<'_>,
@@ -60,18 +61,8 @@ fn run_to_save(
     missing: Missing,
 ) -> Result<(), RunFault> {
     let new = LockFile::take(rt, pool)?;
-    load_and_save(rt, line, &new, missing)
-}
-
-// If the pool file is refused, the new file is removed.
-fn load_and_save(
-    rt: &HostRuntime,
-    line: Line<'_>,
-    new: &LockFile,
-    missing: Missing,
-) -> Result<(), RunFault> {
     match load(rt, new.locked_path(), missing) {
-        Ok(service) => carry_out_and_save(rt, service, line, new),
+        Ok(service) => carry_out_and_save(rt, service, line, &new),
         Err(fault) => {
             new.remove(rt);
             Err(fault)

@@ -37,6 +37,7 @@ use Rattle.stream_commands.specs.State.{StreamState, branched, state_with, works
 use Rattle.import_session.specs.Session.{Leaves}
 use Rattle.import_session.specs.Sound.{IsSound}
 use Rattle.stream_commands.proofs.ActLemmas.{carries_refused}
+use Rattle.import_session.proofs.SoundEnds.{stream_keeps}
 
 -- ---- a commit is looked up, and then the open commit changes
 
@@ -192,16 +193,9 @@ opened_by workspace stood first new branches (Err f) same set refused =
 pub without_command : (digest : List ℕ → List ℕ) (workspace : Workspace)
     (command : OpenCommand OpenCommit) → command ≡ open_command.Nothing → IsSound digest workspace
     → IsSound digest (with_command workspace command)
-without_command digest workspace command none sound = record {
-  objects = sound.objects;
-  trees = sound.trees;
-  refs = sound.refs;
-  next_head = sound.next_head;
-  marks = sound.marks;
-  branches = sound.branches;
-  tags = sound.tags;
-  command = rw none tt;
-}
+without_command digest workspace command none sound =
+    stream_keeps digest workspace sound (record workspace.stream { command = command }) sound.next_head
+    sound.marks sound.branches sound.tags (rw none tt)
 
 pub opened_refused : (workspace new : Workspace) (mark : Option ℕ) (message : List ℕ)
     (said : CommitHeader) (header : Header) (e f : Fault) (out : List ℕ)

@@ -1,5 +1,5 @@
 -- What an item does by its text, by the end of the open commit and by its act.
-use Rattle.std.proofs.Common.{◌≡◌, ◌≢◌, ◌⊎◌, inl, inr, ℕ, List, [], Result, Ok, Err, refl, sym, ap, subst, Bool, false, append-nil, true}
+use Rattle.std.proofs.Common.{◌≡◌, ◌≢◌, ℕ, List, [], Result, Ok, Err, refl, sym, ap, subst, Bool, false, append-nil, true}
 use Rattle.std.specs.Prelude.{OnOk}
 use Rattle.std.proofs.lemmas.Bool.{cond-true}
 use Rattle.stream_parts.specs.declared.fault.Fault.{Fault}
@@ -18,7 +18,7 @@ use Rattle.import_session.specs.Stream.{Running, Step, step, taken, is_finish}
 use Rattle.import_session.specs.Meaning.{after_act}
 use Rattle.stream_commands.specs.State.{CarriesOut}
 use Rattle.import_session.specs.Session.{ReadsItem, Takes}
-use Rattle.stream_commands.proofs.ActLemmas.{memory_or}
+use Rattle.stream_commands.proofs.ActLemmas.{is_memory}
 
 -- the step that an effect makes
 abbrev pub stepped : Effect → Parsing → Bool → Step
@@ -46,11 +46,7 @@ step_over digest now item next out done same =
 -- an item that gave no act
 takes_refused : (r : Result Step Fault) (next : Running) (out out' : List ℕ) (e : Fault)
     → (e ≢ fault.Memory → r ≡ Err e) → Takes r next out out' (Err e)
-takes_refused (Ok step) next out out' e refused = by_memory (memory_or e)
-  where
-    by_memory : (e ≡ fault.Memory) ⊎ (e ≢ fault.Memory) → e ≡ fault.Memory
-    by_memory (inl memory) = memory
-    by_memory (inr other) = let never = refused other in cc
+takes_refused (Ok step) next out out' e refused = is_memory step e refused
 takes_refused (Err refusal) next out out' e refused = λ other. let is = refused other in cc
 
 pub no_act : (k : Result Done TextFault) (later : Done → Result Step Fault) (next : Running)
@@ -77,61 +73,20 @@ steps : (closed : Result Workspace Fault) (later : Workspace → Result Effect F
 steps (Ok w) later more = refl
 steps (Err e) later more = refl
 
--- an act that was refused
-effect_refused : (r : Result Effect Fault) (p : Parsing) (b : Bool) (new : Workspace)
-    (next : Running) (out out' : List ℕ) (e : Fault)
-    → CarriesOut r new out out' (Err e) → Takes (and_then r (λ effect. Ok (stepped effect p b)))
-    next out out' (Err e)
-effect_refused (Ok effect) p b new next out out' e carried = carried
-effect_refused (Err refusal) p b new next out out' e carried = carried
-
-item_refused : (digest : List ℕ → List ℕ) (w : Workspace) (p : Parsing)
-    (k : Result Done TextFault) (done : LentDone) (new : Workspace) (next : Running)
-    (out out' : List ℕ) (e : Fault)
-    → ReadsItem (Ok done) k
-    → CarriesOut (done_effect digest w (done_shown done)) new out out' (Err e)
-    → Takes (and_then (text_first k) (done_step digest w p)) next out out' (Err e)
-item_refused digest w p k done new next out out' e reads carried =
-    rw (
-      reads,
-      ← steps (closed_where digest done.ends_commit w)
-          (after_act digest (act_shown done.act))
-          (λ effect. Ok (stepped effect p (is_finish (act_shown done.act)))),
-    )
-    (effect_refused (done_effect digest w (done_shown done)) p
-    (is_finish (act_shown done.act)) new next out out' e carried)
-
--- an act that was carried out
-effect_taken : (r : Result Effect Fault) (p : Parsing) (b : Bool) (new : Workspace)
-    (out out' : List ℕ) (u : Unit {0})
-    → CarriesOut r new out out' (Ok u)
-    → Takes (and_then r (λ effect. Ok (stepped effect p b)))
-    (record { workspace = new; parsing = p; is_done = b }) out out' (Ok u)
-effect_taken (Ok effect) p b new out out' u carried = (
-  ap (λ (w : Workspace). record { workspace = w; parsing = p; is_done = b }) carried.0,
+-- an act that was carried out, or refused
+effect_answered : (r : Result Effect Fault) (p : Parsing) (a b : Bool) (new : Workspace)
+    (out out' : List ℕ) (result : Result Unit Fault)
+    → CarriesOut r new out out' result → OnOk result (b ≡ a)
+    → Takes (and_then r (λ effect. Ok (stepped effect p a)))
+    (record { workspace = new; parsing = p; is_done = b }) out out' result
+effect_answered (Ok effect) p a b new out out' (Ok u) carried same = rw same (
+  ap (λ (w : Workspace). record { workspace = w; parsing = p; is_done = a }) carried.0,
   carried.1,
 )
-effect_taken (Err refusal) p b new out out' u carried = absurd carried
+effect_answered (Err refusal) p a b new out out' (Ok u) carried same = absurd carried
+effect_answered (Ok effect) p a b new out out' (Err e) carried same = carried
+effect_answered (Err refusal) p a b new out out' (Err e) carried same = carried
 
-item_taken : (digest : List ℕ → List ℕ) (w : Workspace) (p : Parsing)
-    (k : Result Done TextFault) (done : LentDone) (new : Workspace)
-    (out out' : List ℕ) (u : Unit {0})
-    → ReadsItem (Ok done) k
-    → CarriesOut (done_effect digest w (done_shown done)) new out out' (Ok u)
-    → Takes (and_then (text_first k) (done_step digest w p))
-    (record { workspace = new; parsing = p; is_done = is_finish (act_shown done.act) })
-    out out' (Ok u)
-item_taken digest w p k done new out out' u reads carried =
-    rw (
-      reads,
-      ← steps (closed_where digest done.ends_commit w)
-          (after_act digest (act_shown done.act))
-          (λ effect. Ok (stepped effect p (is_finish (act_shown done.act)))),
-    )
-    (effect_taken (done_effect digest w (done_shown done)) p
-    (is_finish (act_shown done.act)) new out out' u carried)
-
--- an act that was carried out, or refused
 pub item_answered : (digest : List ℕ → List ℕ) (w : Workspace) (p : Parsing)
     (k : Result Done TextFault) (done : LentDone) (new : Workspace) (b : Bool)
     (out out' : List ℕ) (result : Result Unit Fault)
@@ -140,11 +95,15 @@ pub item_answered : (digest : List ℕ → List ℕ) (w : Workspace) (p : Parsin
     → OnOk result (b ≡ is_finish (act_shown done.act))
     → Takes (and_then (text_first k) (done_step digest w p))
     (record { workspace = new; parsing = p; is_done = b }) out out' result
-item_answered digest w p k done new b out out' (Ok u) reads carried finished =
-    rw finished (item_taken digest w p k done new out out' u reads carried)
-item_answered digest w p k done new b out out' (Err e) reads carried finished =
-    item_refused digest w p k done new (record { workspace = new; parsing = p; is_done = b })
-    out out' e reads carried
+item_answered digest w p k done new b out out' result reads carried finished =
+    rw (
+      reads,
+      ← steps (closed_where digest done.ends_commit w)
+          (after_act digest (act_shown done.act))
+          (λ effect. Ok (stepped effect p (is_finish (act_shown done.act)))),
+    )
+    (effect_answered (done_effect digest w (done_shown done)) p (is_finish (act_shown done.act)) b new
+    out out' result carried finished)
 
 -- what was given was not that memory ran out
 pub no_memory : (given : Result LentDone TextFault) (done : LentDone)

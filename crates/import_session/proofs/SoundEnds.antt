@@ -1,6 +1,6 @@
 -- A sound stream stays sound where objects are added and its open commit ends.
 use Rattle.std.proofs.Common.{◌≡◌, ◌++◌, nat_eq, ℕ, zero, suc, Bool, true, false, List, [], ◌∷◌, take, Option, Some, None, Result, Ok, Err, refl, sym, ap, ◌∙◌, subst, All}
-use Rattle.std.specs.Prelude.{IfOk, unwrap_or}
+use Rattle.std.specs.Prelude.{IfOk, IfSome, unwrap_or}
 use Rattle.std.specs.Result.{result_unwrap_or}
 use Rattle.std.specs.Str.{bytes_eq}
 use Rattle.std.proofs.lemmas.List.Elements.{All-nil, All-cons, All-head, All-tail, All-weaker}
@@ -8,7 +8,7 @@ use Rattle.indexmap.specs.IndexMap.{insert_entry}
 use Rattle.git_model.specs.declared.kind.Kind.{Kind}
 use Rattle.git_model.specs.declared.kind.Kind.TheVariants as kind
 use Rattle.git_model.specs.Content.{Content, no_content}
-use Rattle.git_model.specs.GoodRepository.{AreRefs, IsTagNamed}
+use Rattle.git_model.specs.GoodRepository.{AreRefs, IsShortRefName, IsTagNamed}
 use Rattle.git_model.specs.RefStore.{RefStore}
 use Rattle.git_model.specs.References.{kind_named}
 use Rattle.git_model.specs.Repository.{Object, object_named}
@@ -31,6 +31,7 @@ use Rattle.git_model.specs.Results.{and_then}
 use Rattle.stream_parts.specs.Marks.{Marks, as_marked, room_for, with_mark}
 use Rattle.stream_parts.specs.OpenCommand.{OpenCommand}
 use Rattle.stream_parts.specs.OpenCommand as open_command
+use Rattle.stream_parts.specs.StreamOf.{StreamOf}
 use Rattle.stream_parts.specs.Tags.{PendingTags}
 use Rattle.stream_commands.specs.Faults.{changed_or}
 use Rattle.stream_commands.specs.Workspace.{Workspace}
@@ -132,6 +133,19 @@ pub branch_keeps : (os : List Object) (branches : Branches) (ref : List ℕ) (ti
 branch_keeps os branches ref tip good new =
     entry_set bytes_eq (IsStreamBranch os) branches ref tip good
     (λ old is. record { name = is.name; tip = new.tip }) new
+
+-- ---- what the stream has of its own
+
+-- only that changes, and it stays sound
+pub stream_keeps : (digest : List ℕ → List ℕ) (workspace : Workspace) → IsSound digest workspace
+    → (stream : StreamOf Opened) → IfSome stream.head IsShortRefName
+    → AreMarks workspace.objects stream.marks
+    → All (IsStreamBranch workspace.objects) stream.branches
+    → All (IsPending workspace.objects) stream.tags
+    → IsSoundCommand workspace.objects stream.command
+    → IsSound digest (record workspace { stream = stream })
+stream_keeps digest workspace sound stream head marks branches tags command =
+    record { objects = sound.objects; trees = sound.trees; refs = sound.refs; next_head = head; marks = marks; branches = branches; tags = tags; command = command }
 
 -- ---- the end of a commit
 

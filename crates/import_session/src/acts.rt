@@ -1,14 +1,11 @@
 //! What the acts of a stream do: git-fast-import(1), "Commands". Each group of commands is a file.
 
 ghost use Rattle.std.specs.Prelude.{◌≡◌, OnErr, OnOk};
-ghost use Rattle.tenant_tables.specs.Room.{HasHoldsLeftBeside};
-ghost use Rattle.tenant_tables.specs.IsBackedBy.{IsBackedBy};
+ghost use Rattle.tenant_tables.specs.{Room.{HasHoldsLeftBeside}, IsBackedBy.{IsBackedBy}};
 ghost use Rattle.stream_grammar.specs.Shown.{act_shown};
-ghost use Rattle.import_session.specs.Meaning.{after_act};
-ghost use Rattle.stream_commands.specs.Lent.{Keeps};
-ghost use Rattle.stream_commands.specs.Held.{FilesStand};
-ghost use Rattle.import_session.specs.Sound.{IsSound};
-ghost use Rattle.stream_commands.specs.State.{state_shown, workspace_in, CarriesOut, KeepsCommitted};
+ghost use Rattle.import_session.specs.{Meaning.{after_act}, Sound.{IsSound}};
+ghost use Rattle.stream_commands.specs.{Lent.{Keeps}, Held.{FilesStand}, State.{KeepsCommitted}};
+ghost use Rattle.stream_commands.specs.State.{state_shown, workspace_in, CarriesOut};
 
 use crate::changes::carry_out_change;
 use crate::commits::carry_out_commit;

@@ -3,19 +3,16 @@
 
 ghost use Rattle.std.specs.Prelude.{List, ℕ, OnOk};
 ghost use Rattle.content_pool.specs.Pool.{Cells};
-ghost use Rattle.git_model.specs.GoodRepository.{AreObjects};
-ghost use Rattle.git_model.specs.RefStore.{RefStore};
+ghost use Rattle.git_model.specs.{GoodRepository.{AreObjects}, RefStore.{RefStore}};
 ghost use Rattle.git_model.specs.Repository.{Object};
-ghost use Rattle.tenant_tables.specs.Objects.{objects};
-ghost use Rattle.tenant_tables.specs.Room.{HasHoldsLeftBeside};
+ghost use Rattle.tenant_tables.specs.{Objects.{objects}, Room.{HasHoldsLeftBeside}, View.{View}};
 ghost use Rattle.tenant_tables.specs.IsBackedBy.{IsBackedBy};
-ghost use Rattle.tenant_tables.specs.View.{View};
-ghost use Rattle.stream_grammar.specs.Acts.{Modify, ModifyInline, InlineData, Delete, Copy, Rename, DeleteAll};
-ghost use Rattle.stream_grammar.specs.Shown.{change_shown};
-ghost use Rattle.stream_commands.specs.Lent.{Keeps};
-ghost use Rattle.import_session.specs.Changes.{files_changed};
-ghost use Rattle.stream_commands.specs.State.{state_shown, workspace_in, CarriesOut, KeepsCommitted};
+ghost use Rattle.stream_grammar.specs.Acts.{Modify, ModifyInline, InlineData, Delete, Copy, Rename};
+ghost use Rattle.stream_grammar.specs.{Acts.{DeleteAll}, Shown.{change_shown}};
+ghost use Rattle.stream_commands.specs.{Lent.{Keeps}, State.{KeepsCommitted}};
+ghost use Rattle.stream_commands.specs.State.{state_shown, workspace_in, CarriesOut};
 ghost use Rattle.stream_commands.specs.Held.{FilesStand, HoldsFiles, KeepsBranchFiles};
+ghost use Rattle.import_session.specs.Changes.{files_changed};
 
 use content_pool::Pool;
 use git_model::FileMode;

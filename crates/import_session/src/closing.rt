@@ -1,19 +1,17 @@
 //! How a commit ends: git-fast-import(1), "commit".
 
 ghost use Rattle.std.specs.Prelude.{◌≡◌, ◌≢◌, List, Ok, Err, MatchResult, OnOk};
-ghost use Rattle.git_model.specs.RefStore.{RefStore};
-ghost use Rattle.git_model.specs.Repository.{Object};
-ghost use Rattle.tenant_tables.specs.Objects.{objects};
-ghost use Rattle.tenant_tables.specs.Room.{HasHoldsLeftBeside};
+ghost use Rattle.git_model.specs.{RefStore.{RefStore}, Repository.{Object}};
+ghost use Rattle.tenant_tables.specs.{Objects.{objects}, Room.{HasHoldsLeftBeside}};
 ghost use Rattle.tenant_tables.specs.IsBackedBy.{IsBackedBy};
 ghost use Rattle.kept_files.specs.KeptCommits.{AreBranches};
 ghost use Rattle.open_commits.specs.OpenCommit.{shown_in, IsCommitHeld};
 ghost use Rattle.stream_parts.specs.OpenCommand.{Nothing};
-ghost use Rattle.stream_commands.specs.Lent.{Keeps};
-ghost use Rattle.import_session.specs.Commits.{closed_where, commit_closed, open_closed};
-ghost use Rattle.stream_commands.specs.State.{command_shown, state_shown, workspace_in, KeepsCommitted};
-ghost use Rattle.import_session.specs.Session.{Leaves};
+ghost use Rattle.stream_commands.specs.{Lent.{Keeps}, State.{KeepsCommitted}};
+ghost use Rattle.stream_commands.specs.State.{command_shown, state_shown, workspace_in};
 ghost use Rattle.stream_commands.specs.Held.{ChainStands, FilesStand};
+ghost use Rattle.import_session.specs.Commits.{closed_where, commit_closed, open_closed};
+ghost use Rattle.import_session.specs.Session.{Leaves};
 
 use content_pool::Pool;
 use git_objects::{Kind, Name, Naming};

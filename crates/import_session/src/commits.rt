@@ -3,17 +3,15 @@
 ghost use Rattle.std.specs.Prelude.{◌≡◌, List, ℕ, OnOk};
 ghost use Rattle.content_pool.specs.Pool.{Cells};
 ghost use Rattle.git_model.specs.GoodRepository.{AreObjects};
-ghost use Rattle.tenant_tables.specs.Objects.{objects};
-ghost use Rattle.tenant_tables.specs.IsBackedBy.{IsBackedBy};
-ghost use Rattle.tenant_tables.specs.View.{View};
+ghost use Rattle.tenant_tables.specs.{Objects.{objects}, IsBackedBy.{IsBackedBy}, View.{View}};
 ghost use Rattle.stream_grammar.specs.Acts.{Begin, Author, Committer, Encoding, From, Merge};
 ghost use Rattle.stream_grammar.specs.Shown.{commit_command_shown, commit_shown as said_shown};
 ghost use Rattle.open_commits.specs.OpenCommit.{shown_in, IsCommitHeld};
 ghost use Rattle.import_session.specs.Commits.{commit_merged, commit_said, commit_started};
+ghost use Rattle.import_session.specs.{Sound.{IsSound}, Session.{Leaves}};
 ghost use Rattle.stream_commands.specs.Held.{ChainStands, FilesStand, HoldsFiles, KeepsBranchFiles};
-ghost use Rattle.import_session.specs.Sound.{IsSound};
-ghost use Rattle.stream_commands.specs.State.{state_shown, workspace_in, workspace_over, CarriesOut};
-ghost use Rattle.import_session.specs.Session.{Leaves};
+ghost use Rattle.stream_commands.specs.State.{state_shown, workspace_in, workspace_over};
+ghost use Rattle.stream_commands.specs.State.{CarriesOut};
 
 use crate::opening::open_commit;
 use content_pool::Pool;

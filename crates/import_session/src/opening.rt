@@ -1,24 +1,21 @@
 //! How a commit opens, at its message: git-fast-import(1), "commit".
 
 ghost use Rattle.std.specs.Prelude.{◌≡◌, ◌≢◌, List, ℕ, Ok, Err, IfOk, IfSome, OnOk, MatchResult};
-ghost use Rattle.git_model.specs.GoodRepository.{AreObjects};
-ghost use Rattle.git_model.specs.RefStore.{RefStore};
+ghost use Rattle.git_model.specs.{GoodRepository.{AreObjects}, RefStore.{RefStore}};
 ghost use Rattle.git_model.specs.Repository.{Object};
-ghost use Rattle.tenant_tables.specs.Objects.{objects};
-ghost use Rattle.tenant_tables.specs.IsBackedBy.{IsBackedBy};
+ghost use Rattle.tenant_tables.specs.{Objects.{objects}, IsBackedBy.{IsBackedBy}};
 ghost use Rattle.tree_build.specs.Branch.{IsBranch};
 ghost use Rattle.kept_files.specs.KeptCommits.{AreBranches};
 ghost use Rattle.stream_grammar.specs.Acts.{Message};
-ghost use Rattle.open_commits.specs.OpenCommit.{begun, commit_held, header_shown, shown_in, IsCommitHeld};
+ghost use Rattle.open_commits.specs.OpenCommit.{begun, commit_held, header_shown, shown_in};
+ghost use Rattle.open_commits.specs.OpenCommit.{IsCommitHeld};
 ghost use Rattle.stream_parts.specs.Branches.{branch_set, tip_commit, tip_for};
 ghost use Rattle.stream_parts.specs.OpenCommand.{Changes};
-ghost use Rattle.stream_commands.specs.Workspace.{quiet};
+ghost use Rattle.stream_commands.specs.{Workspace.{quiet}, State.{CarriesOut}, Held.{FilesStand}};
+ghost use Rattle.stream_commands.specs.State.{branched, state_shown, state_with, workspace_in};
 ghost use Rattle.import_session.specs.Commits.{begun_from, commit_said, header_said};
 ghost use Rattle.import_session.specs.Opening.{opened_with, started_or_cleared, IsTipCommit};
-ghost use Rattle.stream_commands.specs.State.{branched, state_shown, state_with, workspace_in, CarriesOut};
-ghost use Rattle.import_session.specs.Session.{Leaves};
-ghost use Rattle.stream_commands.specs.Held.{FilesStand};
-ghost use Rattle.import_session.specs.Sound.{IsSound};
+ghost use Rattle.import_session.specs.{Session.{Leaves}, Sound.{IsSound}};
 
 use content_pool::Pool;
 use git_objects::{Name, Naming};

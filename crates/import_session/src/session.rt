@@ -4,22 +4,17 @@
 //! table's committed prefix are the stream's own.
 
 ghost use Rattle.std.specs.Prelude.{◌≡◌, Err, OnErr, OnOk, Result};
-ghost use Rattle.tenant_tables.specs.Room.{HasHoldsLeftBeside};
-ghost use Rattle.tenant_tables.specs.IsBackedBy.{IsBackedBy};
+ghost use Rattle.tenant_tables.specs.{Room.{HasHoldsLeftBeside}, IsBackedBy.{IsBackedBy}};
 ghost use Rattle.stream_grammar.specs.declared.fault.Fault.{Fault as TextFault};
-ghost use Rattle.stream_grammar.specs.Commands.{Done as DoneBy};
-ghost use Rattle.stream_grammar.specs.Shown.{act_shown, Answers};
+ghost use Rattle.stream_grammar.specs.{Commands.{Done as DoneBy}, Shown.{act_shown, Answers}};
 ghost use Rattle.stream_lex.specs.Looking.{item_of};
 ghost use Rattle.git_model.specs.Results.{and_then};
-ghost use Rattle.stream_commands.specs.Lent.{Keeps};
-ghost use Rattle.stream_commands.specs.Checkpoints.{checkpoint};
-ghost use Rattle.import_session.specs.Commits.{closed_where};
-ghost use Rattle.import_session.specs.Meaning.{after_act};
-ghost use Rattle.import_session.specs.Stream.{step, is_finish, session_end};
+ghost use Rattle.stream_commands.specs.{Lent.{Keeps}, Checkpoints.{checkpoint}, Held.{FilesStand}};
 ghost use Rattle.stream_commands.specs.State.{state_shown, workspace_in, CarriesOut};
-ghost use Rattle.import_session.specs.Session.{running_in, repository_in, last_in, new_session, ReadsItem, Takes};
-ghost use Rattle.stream_commands.specs.Held.{FilesStand};
-ghost use Rattle.import_session.specs.Sound.{IsSound};
+ghost use Rattle.import_session.specs.{Commits.{closed_where}, Meaning.{after_act}};
+ghost use Rattle.import_session.specs.{Stream.{step, is_finish, session_end}, Sound.{IsSound}};
+ghost use Rattle.import_session.specs.Session.{running_in, repository_in, last_in, new_session};
+ghost use Rattle.import_session.specs.Session.{ReadsItem, Takes};
 
 use crate::acts::carry_out;
 use crate::closing::close_where;

@@ -1,11 +1,12 @@
 //! The files of the last commits that ended, for commits that start from them.
 
-ghost use Rattle.std.specs.Prelude.{◌≡◌, ◌≢◌, ◌≤◌, ◌<◌, ◌+◌, ◌-◌, ◌^◌, ◌⊎◌, ℕ, List, [], length, drop, min, slice_index_or, All, IfNone, IfSome, Bool, true};
-ghost use Rattle.git_model.specs.Limits.{files_limit};
-ghost use Rattle.git_model.specs.Repository.{Object};
+ghost use Rattle.std.specs.Prelude.{◌≡◌, ◌≢◌, ◌≤◌, ◌<◌, ◌+◌, ◌-◌, ◌^◌, ℕ, List, [], length, drop};
+ghost use Rattle.std.specs.Prelude.{min, slice_index_or, All, IfNone, IfSome, true};
+ghost use Rattle.git_model.specs.{Limits.{files_limit}, Repository.{Object}};
 ghost use Rattle.tree_build.specs.Branch.{IsBranch};
 ghost use Rattle.kept_files.specs.declared.kept_files.KeptCommit.{KeptCommit as KeptCommitShown};
-ghost use Rattle.kept_files.specs.KeptCommits.{Adds, AreBranches, TakesOut, commits_limit, files_of};
+ghost use Rattle.kept_files.specs.KeptCommits.{Adds, AreBranches, TakesOut, commits_limit};
+ghost use Rattle.kept_files.specs.KeptCommits.{files_of};
 
 use file_maps::FILES_LIMIT;
 use git_objects::Name;
@@ -42,8 +43,7 @@ impl Drop for KeptFiles {
 }
 
 impl Model for KeptFiles {
-    ghost use Rattle.std.specs.Prelude.{List};
-    ghost use Rattle.std.specs.Coded.{codes};
+    ghost use Rattle.std.specs.{Prelude.{List}, Coded.{codes}};
     ghost use Rattle.tree_build.specs.ShapeCode.{branch_code};
     ghost use Rattle.kept_files.specs.declared.kept_files.KeptCommit.{KeptCommit};
 

@@ -6,12 +6,10 @@
 #![tactic(auto)]
 
 mod links;
-mod lock_fault;
 mod lock_file;
 mod named_files;
 mod next_file;
 mod replacements;
 
-pub use lock_fault::LockFault;
 pub use lock_file::LockFile;
 pub use next_file::NextFile;

@@ -1,6 +1,6 @@
 //! Files that are named by a symbolic link: symlink(7).
 
-use crate::lock_fault::LockFault;
+use byte_devices::WriteFault;
 use std::fs;
 use std::io::ErrorKind;
 use std::path::{Path, PathBuf};
@@ -13,7 +13,7 @@ const LINKS_LIMIT: u8 = 40;
 ///
 /// `Device` (68) if a link cannot be read, or if there are more than 40 in a chain, as in a circle.
 /// `Memory` (90) if memory ran out.
-pub(crate) fn followed(rt: &HostRuntime, path: &str) -> Result<String, LockFault> {
+pub(crate) fn followed(rt: &HostRuntime, path: &str) -> Result<String, WriteFault> {
     let mut path = Path::new(path).to_path_buf(rt.alloc())?;
     for _ in 0..LINKS_LIMIT {
         if !is_link(rt, path.as_path())? {
@@ -22,21 +22,21 @@ pub(crate) fn followed(rt: &HostRuntime, path: &str) -> Result<String, LockFault
         path = target(rt, path.as_path())?;
     }
     if is_link(rt, path.as_path())? {
-        return Err(LockFault::Device);
+        return Err(WriteFault::Device);
     }
     Ok(path.into_string())
 }
 
-fn is_link(rt: &HostRuntime, path: Path<'_>) -> Result<bool, LockFault> {
+fn is_link(rt: &HostRuntime, path: Path<'_>) -> Result<bool, WriteFault> {
     match fs::symlink_metadata(rt, path) {
         Ok(found) => Ok(found.is_symlink()),
         Err(error) if error.kind() == ErrorKind::NotFound => Ok(false),
-        Err(error) => Err(LockFault::from(error)),
+        Err(error) => Err(WriteFault::from(error)),
     }
 }
 
 // The target of a link is relative to the folder of the link, unless it begins at the root.
-fn target(rt: &HostRuntime, link: Path<'_>) -> Result<PathBuf, LockFault> {
+fn target(rt: &HostRuntime, link: Path<'_>) -> Result<PathBuf, WriteFault> {
     let said = link.read_link(rt)?;
     match link.parent() {
         Some(folder) => Ok(folder.join(rt.alloc(), said.as_path())?),

@@ -5,10 +5,10 @@
 //! file is beside that one, and the link stays.
 
 use crate::links::followed;
-use crate::lock_fault::LockFault;
 use crate::named_files::{has_name, make_new, remove_if_named};
 use crate::next_file::{NextFile, name_of, remove_left};
 use crate::replacements::put;
+use byte_devices::WriteFault;
 use std::fs::{File, OpenOptions};
 use std::io::ErrorKind;
 use std::{fs, io};
@@ -23,7 +23,7 @@ pub struct LockFile {
     locked: String,
     name: String,
     // An error if no lock file could be made; `replace` is then refused with it.
-    file: Result<File, LockFault>,
+    file: Result<File, WriteFault>,
 }
 
 impl LockFile {
@@ -34,7 +34,7 @@ impl LockFile {
     /// as a symbolic link, or if the links of `path` cannot be followed. `Memory` (90) if memory ran
     /// out. If the lock file cannot be made for another reason, as in a folder that may not be
     /// written, `take` succeeds, and `file`, `replace` and `next` are refused (68).
-    pub fn take(rt: &HostRuntime, path: &str) -> Result<LockFile, LockFault> {
+    pub fn take(rt: &HostRuntime, path: &str) -> Result<LockFile, WriteFault> {
         let locked = followed(rt, path)?;
         let name = format!(in rt.alloc(); "{locked}{NEW}")?;
         let next = name_of(rt, &locked)?;
@@ -43,8 +43,8 @@ impl LockFile {
                 remove_left(rt, &next);
                 Ok(file)
             }
-            Err(error) if refuses(error.kind()) => return Err(LockFault::from(error)),
-            Err(error) => Err(LockFault::from(error)),
+            Err(error) if refuses(error.kind()) => return Err(WriteFault::from(error)),
+            Err(error) => Err(WriteFault::from(error)),
         };
         Ok(LockFile { locked, name, file })
     }
@@ -55,7 +55,7 @@ impl LockFile {
     }
 
     /// The lock file, which is empty until it is written; or the fault for which it was not made.
-    pub fn file(&self) -> Result<&File, LockFault> {
+    pub fn file(&self) -> Result<&File, WriteFault> {
         match &self.file {
             Ok(file) => Ok(file),
             Err(fault) => Err(*fault),
@@ -69,7 +69,7 @@ impl LockFile {
     /// `Device` (68) if a call fails, or if another file has the name of the lock file. The locked
     /// file is then as it was, unless only the sync of the folder failed: it is then the new file,
     /// and may be the old one again after a loss of power.
-    pub fn replace(&self, rt: &HostRuntime) -> Result<(), LockFault> {
+    pub fn replace(&self, rt: &HostRuntime) -> Result<(), WriteFault> {
         put(rt, self.file()?, &self.name, &self.locked)
     }
 
@@ -77,7 +77,7 @@ impl LockFile {
     ///
     /// `Device` (68) if the lock file was not made, or if this file cannot be made. `Memory` (90)
     /// if memory ran out.
-    pub fn next(&self, rt: &HostRuntime) -> Result<NextFile, LockFault> {
+    pub fn next(&self, rt: &HostRuntime) -> Result<NextFile, WriteFault> {
         self.file()?;
         NextFile::make(rt, &self.locked)
     }
@@ -86,9 +86,9 @@ impl LockFile {
     ///
     /// `Device` (68) if a call fails, or if another file has the name of the lock file or of
     /// `next`. The locked file is then as after a refused `replace`.
-    pub fn replace_by(&self, rt: &HostRuntime, next: &NextFile) -> Result<(), LockFault> {
+    pub fn replace_by(&self, rt: &HostRuntime, next: &NextFile) -> Result<(), WriteFault> {
         if !has_name(rt, &self.name, self.file()?)? {
-            return Err(LockFault::Device);
+            return Err(WriteFault::Device);
         }
         next.put(rt, &self.locked)
     }

@@ -1,9 +1,9 @@
 //! A file that is to replace a locked file while the lock stays, so that whoever holds the lock can
 //! replace the locked file again and again.
 
-use crate::lock_fault::LockFault;
 use crate::named_files::{make_new, remove_if_named};
 use crate::replacements::put;
+use byte_devices::WriteFault;
 use std::fs::File;
 use std::io::Write;
 use std::{fs, io};
@@ -22,7 +22,7 @@ pub struct NextFile {
 
 impl NextFile {
     // Whoever calls this holds the lock, so what has the name is left from an earlier run.
-    pub(crate) fn make(rt: &HostRuntime, locked: &str) -> Result<NextFile, LockFault> {
+    pub(crate) fn make(rt: &HostRuntime, locked: &str) -> Result<NextFile, WriteFault> {
         let name = name_of(rt, locked)?;
         remove_left(rt, &name);
         let made = make_new(rt, locked, &name)?;
@@ -30,7 +30,7 @@ impl NextFile {
             Ok(file) => Ok(NextFile { name, file }),
             Err(error) => {
                 remove_left(rt, &name);
-                Err(LockFault::from(error))
+                Err(WriteFault::from(error))
             }
         }
     }
@@ -47,7 +47,7 @@ impl NextFile {
     }
 
     // Gives the file the name of the locked file. It is synced before, and its folder after.
-    pub(crate) fn put(&self, rt: &HostRuntime, locked: &str) -> Result<(), LockFault> {
+    pub(crate) fn put(&self, rt: &HostRuntime, locked: &str) -> Result<(), WriteFault> {
         put(rt, &self.file, &self.name, locked)
     }
 }
@@ -63,7 +63,7 @@ impl Write for NextFile {
 }
 
 /// The name of the next file of the locked file at `locked`. `Memory` (90) if memory ran out.
-pub(crate) fn name_of(rt: &HostRuntime, locked: &str) -> Result<String, LockFault> {
+pub(crate) fn name_of(rt: &HostRuntime, locked: &str) -> Result<String, WriteFault> {
     Ok(format!(in rt.alloc(); "{locked}{NEXT}")?)
 }
 

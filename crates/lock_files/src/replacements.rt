@@ -1,7 +1,7 @@
 //! A file that takes the name of another one, with its mode, and survives a loss of power.
 
-use crate::lock_fault::LockFault;
 use crate::named_files::has_name;
+use byte_devices::WriteFault;
 use std::fs::{File, Permissions};
 use std::os::unix::fs::{MetadataExt, PermissionsExt, fchown};
 use std::os::unix::io::AsFd;
@@ -31,12 +31,12 @@ pub(crate) fn put(
     file: &File,
     name: &str,
     locked: &str,
-) -> Result<(), LockFault> {
+) -> Result<(), WriteFault> {
     keep_mode(rt, locked, file);
     file.sync_all()?;
     let folder = folder_of(rt, locked)?;
     if !has_name(rt, name, file)? {
-        return Err(LockFault::Device);
+        return Err(WriteFault::Device);
     }
     fs::rename(rt, name, locked)?;
     folder.sync_all()?;

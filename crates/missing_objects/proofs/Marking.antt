@@ -1,12 +1,9 @@
 -- Marks that are set one after another.
-use Rattle.std.proofs.Common.{◌≡◌, ℕ, zero, suc, ◌<◌, ◌≤◌, Bool, true, false, List, [], ◌∷◌, ◌++◌, length, map, set, refl, sym, ap, ◌∙◌, arith}
+use Rattle.std.proofs.Common.{◌≡◌, ℕ, zero, suc, ◌<◌, ◌≤◌, Bool, true, false, List, [], ◌∷◌, ◌++◌, length, set, refl, sym, ap, ◌∙◌, arith}
 use Rattle.std.proofs.lemmas.List.{length-replicate}
-use Rattle.git_model.specs.declared.kind.Kind.TheVariants as kind
-use Rattle.git_model.specs.Commit.{Commit}
-use Rattle.git_model.specs.CommitReading.{commit_read}
 use Rattle.git_model.specs.Repository.{Object}
-use Rattle.git_model.specs.References.{commit_references, place_of, reference, references_of}
-use Rattle.export_text.specs.Marking.{marked, names_in}
+use Rattle.git_model.specs.References.{place_of}
+use Rattle.export_text.specs.Marking.{marked}
 use Rattle.export_text.proofs.Leading.{marked-append, marked-length}
 use Rattle.missing_objects.specs.Marks.{AreMarksOf, Marks, first_marks, no_marks, with_marks}
 use Rattle.missing_objects.specs.declared.marks.Mark.{Mark}
@@ -69,17 +66,3 @@ pub first-of : (os : List Object) (len : ℕ) (none mid last : Marks) (wants hav
 first-of os len none mid last wants haves blank whole wanting having =
     having ∙ ap (λ (m : Marks). with_marks mark.Had os m haves)
     (wanting ∙ ap (λ (m : Marks). with_marks mark.Wanted os m wants) (blank ∙ ap no_marks whole))
-
-parent_names : (ps : List (List ℕ)) → names_in (map (reference kind.Commit) ps) ≡ ps
-parent_names [] = refl
-parent_names (p ∷ ps) = ap (λ rest. p ∷ rest) (parent_names ps)
-
-pub commit-marked : (with : Mark) (os : List Object) (first mid last : Marks) (c : Commit)
-    (contents : List ℕ) (parents : List (List ℕ)) → c ≡ commit_read contents
-    → mid ≡ with_marks with os first (c.tree ∷ []) → parents ≡ c.parents → last ≡ with_marks with os mid parents
-    → last ≡ with_marks with os first (names_in (references_of kind.Commit contents))
-commit-marked with os first mid last c contents parents is tree all next =
-    next ∙ ap (λ (m : Marks). with_marks with os m parents) tree
-    ∙ sym (marks-append with os first (c.tree ∷ []) parents)
-    ∙ ap (λ ps. with_marks with os first (c.tree ∷ ps)) (all ∙ sym (parent_names c.parents))
-    ∙ ap (λ (x : Commit). with_marks with os first (names_in (commit_references x))) is

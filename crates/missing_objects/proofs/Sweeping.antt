@@ -1,6 +1,7 @@
 -- A sweep from late places to early ones settles which objects are wanted and not had.
 use Rattle.std.proofs.Common.{◌≡◌, ℕ, zero, suc, ◌+◌, ◌<◌, ◌≤◌, Bool, true, false, not, ◌&&◌, ◌||◌, cond, List, [], ◌∷◌, length, get_or, replicate, All, inl, inr, ◌⊎◌, ◌↔◌, refl, sym, ap, subst, ◌∙◌, arith}
 use Rattle.std.specs.Prelude.{IsTrue, nat_lt}
+use Rattle.std.specs.Int.{from_bool}
 use Rattle.std.specs.List.{Contains}
 use Rattle.std.proofs.lemmas.Bool.{cases_Bool, cases_eq, cases_lt, or_cases, or_left, or_right}
 use Rattle.std.proofs.lemmas.Bool.Decides.{nat_tests}
@@ -16,7 +17,7 @@ use Rattle.export_text.proofs.Leading.{IsLed, IsLedTo, IsOn, all_on, any-led, ke
 use Rattle.missing_objects.specs.Marks.{Marks, first_marks, is_open, marks_at, open_places, with_marks}
 use Rattle.missing_objects.specs.declared.marks.Mark.TheVariants as mark
 use Rattle.missing_objects.specs.Missing.{is_missing, is_reached_by}
-use Rattle.missing_objects.proofs.Opens.{bit, opens, opens-agree, opens-few, opens-suc, opens-zero, none_below}
+use Rattle.missing_objects.proofs.Opens.{opens, opens-agree, opens-few, opens-suc, opens-zero, none_below}
 
 -- ---- what is led to is what is reached
 
@@ -111,12 +112,12 @@ module _ (digest : List ℕ → List ℕ) (os : List Object) (good : AreObjects 
 
     -- where the marks from n on are the same, the count goes on
     counted : (l : Marks) (b : Bool) → is_open m n ≡ b → ((p : ℕ) → n ≤ p → is_open l p ≡ is_open m p)
-        → opens l (length os) ≡ opens l n + (found + bit b)
+        → opens l (length os) ≡ opens l n + (found + from_bool b)
     counted l b is same =
         let e : opens l (length os) + opens m n ≡ opens m (length os) + opens l n =
         opens-agree m l n same (length os) (omega arith) in
-        let f : opens m (suc n) ≡ opens m n + bit (is_open m n) = opens-suc m n in
-        let g : bit (is_open m n) ≡ bit b = ap bit is in
+        let f : opens m (suc n) ≡ opens m n + from_bool (is_open m n) = opens-suc m n in
+        let g : from_bool (is_open m n) ≡ from_bool b = ap from_bool is in
         let c : opens m (length os) ≡ opens m (suc n) + found = w.count in omega arith
 
     having : get_or m.had n false ≡ true
@@ -191,13 +192,13 @@ module _ (digest : List ℕ → List ℕ) (os : List Object) (good : AreObjects 
         (cond (get_or m.wanted n false) (with_marks mark.Wanted os m ids) m)) off
 
     to : (l : Marks) (b : Bool) → marks_at os m n ≡ l → is_open m n ≡ b
-        → IsSweep os wants haves n (found + bit b) l
-        → IsSweep os wants haves n (found + bit (is_open m n)) (marks_at os m n)
+        → IsSweep os wants haves n (found + from_bool b) l
+        → IsSweep os wants haves n (found + from_bool (is_open m n)) (marks_at os m n)
     to l b is told v =
-        subst (λ (x : Bool). IsSweep os wants haves n (found + bit x) (marks_at os m n)) (sym told)
-        (subst (λ (k : Marks). IsSweep os wants haves n (found + bit b) k) (sym is) v)
+        subst (λ (x : Bool). IsSweep os wants haves n (found + from_bool x) (marks_at os m n)) (sym told)
+        (subst (λ (k : Marks). IsSweep os wants haves n (found + from_bool b) k) (sym is) v)
 
-    pub sweep-next : IsSweep os wants haves n (found + bit (is_open m n)) (marks_at os m n)
+    pub sweep-next : IsSweep os wants haves n (found + from_bool (is_open m n)) (marks_at os m n)
     sweep-next = elim (cases_Bool (get_or m.had n false)) [
       | inl on ↦ to (record { wanted = m.wanted; had = marked os m.had ids }) false (on-had on) (closed-of m n on) (having on)
       | inr off ↦ elim (cases_Bool (get_or m.wanted n false)) [
@@ -347,37 +348,21 @@ module _ (digest : List ℕ → List ℕ) (os : List Object) (good : AreObjects 
       (subst (λ (l : Marks). IsSweep os wants haves (length os) 0 l) (sym is)
       (sweep-first digest os good wants haves))
 
-  sweep-step : (n found : ℕ) (m l : Marks) (b : Bool) → n < length os → IsSweep os wants haves (suc n) found m
-      → l ≡ marks_at os m n → b ≡ is_open m n → IsSweep os wants haves n (found + bit b) l
-  sweep-step n found m l b within w is told =
-      subst (λ (k : Marks). IsSweep os wants haves n (found + bit b) k) (sym is)
-      (subst (λ (x : Bool). IsSweep os wants haves n (found + bit x) (marks_at os m n)) (sym told)
-      (sweep-next digest os good wants haves n found m within w))
-
-  pub sweep-found : (place n found : ℕ) (m l : Marks) (b : Bool) → place ≡ suc n → n < length os
-      → IsSweep os wants haves place found m → l ≡ marks_at os m n → b ≡ is_open m n → b ≡ true
-      → IsSweep os wants haves n (found + 1) l
-  sweep-found place n found m l b at within w is told holds =
-      sweep-step n found m l true within (subst (λ (k : ℕ). IsSweep os wants haves k found m) at w) is (sym holds ∙ told)
-
-  pub sweep-passed : (place n found : ℕ) (m l : Marks) (b : Bool) → place ≡ suc n → n < length os
-      → IsSweep os wants haves place found m → l ≡ marks_at os m n → b ≡ is_open m n → b ≡ false
-      → IsSweep os wants haves n found l
-  sweep-passed place n found m l b at within w is told fails =
-      let same : found + 0 ≡ found = omega arith in
-      subst (λ (k : ℕ). IsSweep os wants haves n k l) same
-      (sweep-step n found m l false within (subst (λ (k : ℕ). IsSweep os wants haves k found m) at w) is (sym fails ∙ told))
+  pub sweep-step : (place n found : ℕ) (m l : Marks) (b : Bool) → place ≡ suc n → n < length os
+      → IsSweep os wants haves place found m → l ≡ marks_at os m n → b ≡ is_open m n
+      → IsSweep os wants haves n (found + from_bool b) l
+  sweep-step place n found m l b at within w is told =
+      subst (λ (k : Marks). IsSweep os wants haves n (found + from_bool b) k) (sym is)
+      (subst (λ (x : Bool). IsSweep os wants haves n (found + from_bool x) (marks_at os m n)) (sym told)
+      (sweep-next digest os good wants haves n found m within (subst (λ (k : ℕ). IsSweep os wants haves k found m) at w)))
 
 -- The two ways in which a sweep ends.
-pub none-left : (os : List Object) (wants haves : List (List ℕ)) (n found : ℕ) (m : Marks)
-    → IsSweep os wants haves n found m → opens m (length os) ≤ found → opens m n ≡ 0
-none-left os wants haves n found m w few =
+pub none-left : (os : List Object) (wants haves : List (List ℕ)) (n found count : ℕ) (m : Marks)
+    → IsSweep os wants haves n found m → length m.wanted ≡ length os → count ≡ opens m (length m.wanted)
+    → count ≤ found → opens m n ≡ 0
+none-left os wants haves n found count m w size counted few =
+    let e : opens m (length m.wanted) ≡ opens m (length os) = ap (opens m) size in
     let c : opens m (length os) ≡ opens m n + found = w.count in omega arith
 
 pub at-first : (n : ℕ) (m : Marks) → n ≡ 0 → opens m n ≡ 0
 at-first n m is = ap (opens m) is ∙ opens-zero m
-
-pub few-open : (os : List Object) (count found : ℕ) (m : Marks) → length m.wanted ≡ length os
-    → count ≡ opens m (length m.wanted) → count ≤ found → opens m (length os) ≤ found
-few-open os count found m size counted few =
-    let e : opens m (length m.wanted) ≡ opens m (length os) = ap (opens m) size in omega arith

@@ -9,9 +9,9 @@ use Rattle.std.proofs.lemmas.Nat.Bits.{bit_at-zero, bit_at_set_other, bit_at_set
 use Rattle.missing_objects.specs.Flags.{flag_in, flags_in}
 use Rattle.missing_objects.proofs.Opens.{get-here, get-none, get-other}
 
-pub length-flags : (words : List ℕ) (n : ℕ) → length (flags_in words n) ≡ n
+pub length_flags : (words : List ℕ) (n : ℕ) → length (flags_in words n) ≡ n
 unfolding flags_in
-length-flags words n = length-map (range_with_len 0 n) (flag_in words) ∙ length-range_with_len 0 n
+length_flags words n = length-map (range_with_len 0 n) (flag_in words) ∙ length-range_with_len 0 n
 
 pub get-flag : (words : List ℕ) (n place : ℕ) → place < n
     → get_or (flags_in words n) place false ≡ flag_in words place
@@ -45,7 +45,7 @@ zero-word (suc k) (suc j) = zero-word k j
 
 pub in-flags : (words : List ℕ) (n place : ℕ) (now : List Bool) → flags_in words n ≡ now → place < length now
     → place < n
-in-flags words n place now is lt = let e = ap length is in let l = length-flags words n in omega arith
+in-flags words n place now is lt = let e = ap length is in let l = length_flags words n in omega arith
 
 pub in-words : (words : List ℕ) (n place : ℕ) (now : List Bool) → flags_in words n ≡ now → place < length now
     → n ≤ 64 * length words → place / 64 < length words
@@ -61,9 +61,9 @@ off words k none p =
 
 pub no-flags : (words : List ℕ) (k n : ℕ) → words ≡ replicate k 0 → flags_in words n ≡ replicate n false
 no-flags words k n none =
-    ext_get_or false (flags_in words n) (replicate n false) (length-flags words n ∙ sym (length-replicate n false))
+    ext_get_or false (flags_in words n) (replicate n false) (length_flags words n ∙ sym (length-replicate n false))
     (λ p lt.
-    let within : p < n = let e = length-flags words n in omega arith in
+    let within : p < n = let e = length_flags words n in omega arith in
     get-flag words n p within ∙ off words k none p ∙ sym (get-none n p))
 
 -- ---- one flag
@@ -110,10 +110,10 @@ module _ (words : List ℕ) (n place word : ℕ) (lt : place < n) (there : place
   pub flag-set : flags_in (set words (place / 64) with) n ≡ set (flags_in words n) place true
   flag-set =
       ext_get_or false (flags_in (set words (place / 64) with) n) (set (flags_in words n) place true)
-      (length-flags (set words (place / 64) with) n
-      ∙ sym (length-set (flags_in words n) place true ∙ length-flags words n))
+      (length_flags (set words (place / 64) with) n
+      ∙ sym (length-set (flags_in words n) place true ∙ length_flags words n))
       (λ p less.
-      let within : p < n = let e = length-flags (set words (place / 64) with) n in omega arith in
+      let within : p < n = let e = length_flags (set words (place / 64) with) n in omega arith in
       get-flag (set words (place / 64) with) n p within ∙ at p within)
     where
       at : (p : ℕ) → p < n → flag_in (set words (place / 64) with) p
@@ -122,7 +122,7 @@ module _ (words : List ℕ) (n place word : ℕ) (lt : place < n) (there : place
         | inl here ↦
             ap (flag_in (set words (place / 64) with)) here ∙ same-flag
             ∙ sym (ap (λ (k : ℕ). get_or (set (flags_in words n) place true) k false) here
-            ∙ get-here (flags_in words n) place (let e = length-flags words n in omega arith))
+            ∙ get-here (flags_in words n) place (let e = length_flags words n in omega arith))
         | inr other ↦
             other-flag p other ∙ sym (get-flag words n p within)
             ∙ sym (get-other (flags_in words n) place p other)

@@ -1,5 +1,5 @@
 -- Which objects are marked as wanted and which as had, for private contracts.
-use Rattle.std.specs.Prelude.{◌≡◌, ℕ, zero, suc, Bool, true, false, not, ◌&&◌, List, [], ◌∷◌, ◌++◌, cond, get_or, length, replicate}
+use Rattle.std.specs.Prelude.{◌≡◌, ℕ, zero, suc, Bool, false, not, ◌&&◌, List, [], ◌∷◌, ◌++◌, cond, get_or, length, replicate}
 use Rattle.git_model.specs.Repository.{Object}
 use Rattle.git_model.specs.References.{object_at, referred_by}
 use Rattle.export_text.specs.Marking.{marked}
@@ -19,6 +19,10 @@ pub record AreMarksOf (os : List Object) (m : Marks) : Type 0 where
 -- An object is open if it is wanted and not had.
 abbrev pub is_open : Marks → ℕ → Bool
 is_open m place = get_or m.wanted place false && not (get_or m.had place false)
+
+-- An object is blank if it is neither.
+abbrev pub is_blank : Marks → ℕ → Bool
+is_blank m place = not (get_or m.wanted place false) && not (get_or m.had place false)
 
 -- The open places below n.
 unfoldable pub open_places : Marks → ℕ → List ℕ

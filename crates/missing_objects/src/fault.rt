@@ -2,7 +2,7 @@
 
 ghost use Rattle.std.specs.Prelude.{◌≡◌};
 ghost use Rattle.missing_objects.specs.Faults.{code_of};
-ghost use Rattle.missing_objects.specs.declared.fault.MissingFault.TheVariants.{Memory as OutOfMemory};
+ghost use Rattle.missing_objects.specs.declared.fault.MissingFault.TheVariants as fault;
 
 use git_objects::Memory;
 use thiserror::Error;
@@ -12,18 +12,10 @@ use thiserror::Error;
 pub enum MissingFault {
     /// A wanted name is that of no object, 16.
     #[error("unknown want")]
-    UnknownWant,
+    UnknownWant = 16,
     /// An allocation failed, 90.
     #[error("out of memory")]
-    Memory,
-}
-
-impl From<Memory> for MissingFault {
-    ghost from_gives = { λ refusal e. e ≡ OutOfMemory };
-
-    fn from(_: Memory) -> MissingFault {
-        MissingFault::Memory
-    }
+    Memory = 90,
 }
 
 impl MissingFault {
@@ -31,9 +23,14 @@ impl MissingFault {
     pub fn code(self) -> u16
         ensures { result ≡ code_of self }
     {
-        match self {
-            MissingFault::UnknownWant => 16,
-            MissingFault::Memory => 90,
-        }
+        self as u16
+    }
+}
+
+impl From<Memory> for MissingFault {
+    ghost from_gives = { λ _ refused. refused ≡ fault.Memory };
+
+    fn from(_refused: Memory) -> MissingFault {
+        MissingFault::Memory
     }
 }

@@ -37,6 +37,7 @@ impl Flags {
     }
 
     /// Whether the flag at a place is set.
+    #[tactic(auto, using(crate::proofs::Words::length_flags))]
     pub fn get(&self, place: usize) -> bool
         requires { place < length self.now }
         ensures { result ≡ get_or self.now place false }
@@ -45,6 +46,7 @@ impl Flags {
     }
 
     /// Sets the flag at a place.
+    #[tactic(auto, using(crate::proofs::Words::length_flags))]
     pub fn set(&mut self, place: usize)
         requires { place < length self.old }
         ensures { self.new ≡ set self.old place true }

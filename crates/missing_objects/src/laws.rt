@@ -2,8 +2,7 @@
 
 ghost use Rattle.std.specs.Prelude.{◌≡◌, ◌≢◌, ◌⊎◌, ◌<◌, ℕ, true, All, AllPairs, List, map};
 ghost use Rattle.std.specs.List.{Contains};
-ghost use Rattle.git_model.specs.GoodRepository.{AreObjects};
-ghost use Rattle.git_model.specs.References.{place_of, referred_by};
+ghost use Rattle.git_model.specs.{GoodRepository.{AreObjects}, References.{place_of, referred_by}};
 ghost use Rattle.git_model.specs.Repository.{Object};
 ghost use Rattle.missing_objects.specs.Missing.{has_all, is_reached_by, missing};
 

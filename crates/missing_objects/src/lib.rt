@@ -10,7 +10,6 @@ mod flags;
 pub mod laws;
 mod marks;
 mod missing;
-mod referring;
 mod sweep;
 
 pub use fault::MissingFault;

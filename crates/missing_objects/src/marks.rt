@@ -2,7 +2,8 @@
 //! A mark stays once it is set.
 
 ghost use Rattle.std.specs.Prelude.{◌≡◌, ◌<◌, [], ◌∷◌, true, false, get_or, length, set, IfOk};
-ghost use Rattle.missing_objects.specs.Marks.{AreMarksOf, is_open, no_marks, open_places, with_marks};
+ghost use Rattle.missing_objects.specs.Marks.{AreMarksOf, is_blank, is_open, no_marks, open_places};
+ghost use Rattle.missing_objects.specs.Marks.{with_marks};
 
 use crate::flags::Flags;
 use git_objects::{Memory, Name, Naming};
@@ -34,9 +35,8 @@ impl Model for Marks {
 
     ghost view = { λ m. record { wanted = m.wanted; had = m.had } };
 
-    ghost invariant = { λ m. (length m.had ≡ length m.wanted) × (length m.wanted ≡ m.len)
-        × (m.open_count ≡ length (open_places
-        (record { wanted = m.wanted; had = m.had }) (length m.wanted))) };
+    ghost invariant = { λ m. (length m.wanted ≡ m.len) × (length m.had ≡ m.len)
+        × (m.open_count ≡ length (open_places (record { wanted = m.wanted; had = m.had }) m.len)) };
 }
 
 impl Marks {
@@ -78,19 +78,22 @@ impl Marks {
         self.wanted.get(place) && !self.had.get(place)
     }
 
+    // Whether the object at a place has no mark.
+    fn is_blank(&self, place: usize) -> bool
+        requires wanted { place < length self.now.wanted }
+        requires had { place < length self.now.had }
+        ensures { result ≡ is_blank self.now place }
+    {
+        !self.wanted.get(place) && !self.had.get(place)
+    }
+
     /// Marks the object at a place as wanted.
     pub fn want(&mut self, place: usize)
         requires { place < length self.old.wanted }
         ensures { self.new ≡ record { wanted = set self.old.wanted place true; had = self.old.had } }
     {
-        if self.wanted.get(place) {
-            return;
-        }
+        self.open_count += usize::from(self.is_blank(place));
         self.wanted.set(place);
-        if self.had.get(place) {
-            return;
-        }
-        self.open_count += 1;
     }
 
     /// Marks the object at a place as had.
@@ -98,20 +101,16 @@ impl Marks {
         requires { place < length self.old.wanted }
         ensures { self.new ≡ record { wanted = self.old.wanted; had = set self.old.had place true } }
     {
-        if self.had.get(place) {
-            return;
-        }
+        self.open_count -= usize::from(self.is_open(place));
         self.had.set(place);
-        if self.wanted.get(place) {
-            self.open_count -= 1;
-        }
     }
 }
 
 /// Marks the object of this name, if there is one.
 pub fn mark_object<N: Naming>(objects: &Objects<'_, N>, id: &Name, with: Mark, marks: &mut Marks)
     requires size { AreMarksOf objects.now marks.old }
-    ensures { marks.new ≡ with_marks with objects.now marks.old (id.now ∷ []) }
+    ensures size { AreMarksOf objects.now marks.new }
+    ensures marked { marks.new ≡ with_marks with objects.now marks.old (id.now ∷ []) }
 {
     match objects.place(id) {
         Some(place) => match with {
@@ -130,7 +129,8 @@ pub fn mark_objects<N: Naming>(
     marks: &mut Marks,
 )
     requires size { AreMarksOf objects.now marks.old }
-    ensures { marks.new ≡ with_marks with objects.now marks.old ids.now }
+    ensures size { AreMarksOf objects.now marks.new }
+    ensures marked { marks.new ≡ with_marks with objects.now marks.old ids.now }
 {
     for id in ids {
         mark_object(objects, id, with, marks);

@@ -2,8 +2,7 @@
 
 ghost use Rattle.std.specs.Prelude.{◌≡◌, ◌≤◌, [], length, IfOk, IfErr, Err, true, false};
 ghost use Rattle.git_model.specs.GoodRepository.{AreObjects};
-ghost use Rattle.missing_objects.specs.Marks.{open_places};
-ghost use Rattle.missing_objects.specs.Missing.{has_all, missing_places};
+ghost use Rattle.missing_objects.specs.{Marks.{open_places}, Missing.{has_all, missing_places}};
 ghost use Rattle.missing_objects.specs.declared.fault.MissingFault.TheVariants as fault;
 
 use crate::fault::MissingFault;

@@ -4,16 +4,35 @@
 //! wanted and whether it is had is settled. It stops when no open object lies below.
 
 ghost use Rattle.std.specs.Prelude.{◌≡◌, ◌<◌, ◌≤◌, ℕ, List, [], length, IfOk, OnOk};
-ghost use Rattle.git_model.specs.GoodRepository.{AreObjects};
-ghost use Rattle.git_model.specs.References.{object_at};
-ghost use Rattle.missing_objects.specs.Marks.{AreMarksOf, first_marks, is_open, marks_at, open_places};
-ghost use Rattle.missing_objects.specs.Missing.{is_missing};
+ghost use Rattle.git_model.specs.{GoodRepository.{AreObjects}, References.{object_at, referred_by}};
+ghost use Rattle.missing_objects.specs.Marks.{AreMarksOf, first_marks, is_open, marks_at};
+ghost use Rattle.missing_objects.specs.{Marks.{open_places, with_marks}, Missing.{is_missing}};
 
-use crate::marks::{Mark, Marks};
-use crate::referring::mark_references;
+use crate::marks::{Mark, Marks, mark_objects};
+use export_text::referring::referred_by;
 use git_objects::{Memory, Naming};
 use std::alloc::Global;
 use tenant_tables::Objects;
+
+// Marks what the object at a place refers to.
+fn mark_references<N: Naming>(
+    alloc: Global,
+    objects: &Objects<'_, N>,
+    place: usize,
+    with: Mark,
+    marks: &mut Marks,
+) -> Result<(), Memory>
+    requires size { AreMarksOf objects.now marks.old }
+    requires there { place < length objects.now }
+    ensures size { AreMarksOf objects.now marks.new }
+    ensures marked { AreObjects N.digest_of objects.now
+        → OnOk result (marks.new ≡ with_marks with objects.now marks.old
+        (referred_by objects.now (object_at place objects.now).id)) }
+{
+    let ids = referred_by(alloc, objects, place)?;
+    mark_objects(objects, &ids, with, marks);
+    Ok(())
+}
 
 // Passes on what the object at a place is marked as. Gives whether the object is open.
 fn visit<N: Naming>(
@@ -64,9 +83,7 @@ pub fn sweep<N: Naming>(
     let mut found = 0;
     while place > 0 && found < marks.open_count() {
         place -= 1;
-        if visit(alloc, objects, place, marks)? {
-            found += 1;
-        }
+        found += usize::from(visit(alloc, objects, place, marks)?);
     }
     Ok(place)
 }

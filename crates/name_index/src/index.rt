@@ -1,7 +1,7 @@
 //! Runs of names.
 
-ghost use Rattle.std.specs.Prelude.{◌≡◌, ◌≤◌, ◌++◌, ◌∷◌, [], true, filter, length};
-ghost use Rattle.std.specs.Prelude.{IfOk, OnOk, OnErr};
+ghost use Rattle.std.specs.Prelude.{◌≡◌, ◌≤◌, ◌++◌, ◌∷◌, [], true, filter, length, IfOk, OnOk};
+ghost use Rattle.std.specs.Prelude.{OnErr};
 ghost use Rattle.name_index.specs.Index.{Merges, Reorders, in_sight, is_between, names_of};
 ghost use Rattle.name_index.specs.Index.{most_shared, two_of, with_more};
 
@@ -67,8 +67,7 @@ impl NameIndex {
         } else if self.few.len() >= FEW {
             pack(&mut self.runs, &mut self.few, self.base, self.alloc)?;
         }
-        self.few.reserve(1)?;
-        Ok(())
+        self.few.reserve(1).map_err(|_| Memory)
     }
 
     /// Adds a name. There must be room for it.

@@ -1,12 +1,11 @@
 //! Names in order.
 
 ghost use Rattle.std.specs.Prelude.{◌≡◌, ◌≢◌, ◌≤◌, ◌<◌, IfOk, true, false, filter, get_or, length};
-ghost use Rattle.std.specs.List.{AllWithin};
-ghost use Rattle.std.specs.Prelude.{IsPermutation, IsSorted};
-ghost use Rattle.std.specs.List.Sorted.{IsPartitionPoint};
-ghost use Rattle.std.specs.Cmp.Lexicographic.{slice_cmp};
+ghost use Rattle.std.specs.{Prelude.{IsPermutation, IsSorted}, List.{AllWithin}};
+ghost use Rattle.std.specs.{List.Sorted.{IsPartitionPoint}, Cmp.Lexicographic.{slice_cmp}};
 ghost use Rattle.std.specs.Ordering.{nat_cmp};
-ghost use Rattle.name_index.specs.Index.{is_before, is_up_to, is_between, most_shared, shared_apart};
+ghost use Rattle.name_index.specs.Index.{is_before, is_up_to, is_between, most_shared};
+ghost use Rattle.name_index.specs.Index.{shared_apart};
 
 use crate::digits::shared_apart;
 use git_names::{Memory, Name};
@@ -20,8 +19,7 @@ pub(crate) struct Run {
 }
 
 impl Model for Run {
-    ghost use Rattle.std.specs.Prelude.{ℕ, List, IsSorted};
-    ghost use Rattle.std.specs.Cmp.Lexicographic.{slice_cmp};
+    ghost use Rattle.std.specs.{Prelude.{ℕ, List, IsSorted}, Cmp.Lexicographic.{slice_cmp}};
     ghost use Rattle.std.specs.Ordering.{nat_cmp};
 
     ghost Value = { List (List ℕ) };

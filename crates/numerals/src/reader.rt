@@ -1,9 +1,7 @@
 //! Reads a decimal number.
 
-ghost use Rattle.std.specs.Prelude.{◌≡◌, if◌then◌else◌, None};
-ghost use Rattle.std.specs.Char.{is_ascii_digit};
-ghost use Rattle.std.specs.List.{list_all};
-ghost use Rattle.std.specs.Str.Parse.{digits_value};
+ghost use Rattle.std.specs.{Prelude.{◌≡◌, if◌then◌else◌, None}, Char.{is_ascii_digit}};
+ghost use Rattle.std.specs.{List.{list_all}, Str.Parse.{digits_value}};
 ghost use Rattle.numerals.specs.Numbers as numbers;
 
 /// Reads a decimal number as git-fast-import(1) writes counts, marks and seconds: 1 to 20 digits

@@ -1,5 +1,5 @@
 -- Faults: the number of each, and how the faults of the layers below are passed on.
-use Rattle.std.specs.Prelude.{ℕ, Option, None, Some, Result, Ok, Err}
+use Rattle.std.specs.Prelude.{ℕ}
 use Rattle.tenant_tables.specs.declared.fault.Fault.{Fault as TableFault}
 use Rattle.tenant_tables.specs.declared.fault.Fault.TheVariants as table_fault
 use Rattle.file_maps.specs.declared.fault.Fault.{Fault as FilesFault}

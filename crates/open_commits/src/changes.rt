@@ -1,15 +1,13 @@
 //! Changes to the files of an open commit: git-fast-import(1), "filemodify" to "filedeleteall".
 
 ghost use Rattle.std.specs.Prelude.{◌≡◌, ◌≢◌, List, [], None, Some, Ok, Err, OnOk};
-ghost use Rattle.git_model.specs.declared.file_mode.FileMode.TheVariants as mode;
-ghost use Rattle.git_model.specs.GoodRepository.{AreObjects};
-ghost use Rattle.git_model.specs.Repository.{Object};
-ghost use Rattle.tenant_tables.specs.Objects.{objects};
-ghost use Rattle.tenant_tables.specs.IsBackedBy.{IsBackedBy};
+ghost use Rattle.git_model.specs.{GoodRepository.{AreObjects}, Repository.{Object}};
+ghost use Rattle.tenant_tables.specs.{Objects.{objects}, IsBackedBy.{IsBackedBy}};
 ghost use Rattle.file_maps.specs.Grafts.{tree_fault};
 ghost use Rattle.open_commits.specs.OpenCommit.{commit_held, shown_in, tree_known, IsCommitHeld};
-ghost use Rattle.open_commits.specs.Changes.{entry_of, modified, file_put, tree_put, deleted, copied_to, renamed_to, all_deleted};
-ghost use Rattle.open_commits.specs.Calls.{Changes};
+ghost use Rattle.open_commits.specs.Changes.{entry_of, modified, file_put, tree_put, deleted};
+ghost use Rattle.open_commits.specs.{Changes.{copied_to, renamed_to, all_deleted}, Calls.{Changes}};
+ghost use Rattle.git_model.specs.declared.file_mode.FileMode.TheVariants as mode;
 
 use crate::datarefs::{blob_of, link_of, tree_of};
 use crate::fault::Fault;

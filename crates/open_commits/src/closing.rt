@@ -1,17 +1,12 @@
 //! The end of a commit: git-fast-import(1), "commit", and git-commit-tree(1).
 
 ghost use Rattle.std.specs.Prelude.{◌≡◌, List, IfOk, OnErr, OnOk, unwrap_or};
-ghost use Rattle.git_model.specs.Commit.{commit_contents};
-ghost use Rattle.git_model.specs.Repository.{Object};
-ghost use Rattle.tenant_tables.specs.Lent.{Keeps};
-ghost use Rattle.tenant_tables.specs.Objects.{objects};
-ghost use Rattle.tenant_tables.specs.Room.{HasHoldsLeftBeside};
+ghost use Rattle.git_model.specs.{Commit.{commit_contents}, Repository.{Object}};
+ghost use Rattle.tenant_tables.specs.{Lent.{Keeps}, Objects.{objects}, Room.{HasHoldsLeftBeside}};
 ghost use Rattle.tenant_tables.specs.IsBackedBy.{IsBackedBy};
-ghost use Rattle.file_maps.specs.FileMap.{listed};
-ghost use Rattle.file_maps.specs.Trees.{nested_trees};
+ghost use Rattle.file_maps.specs.{FileMap.{listed}, Trees.{nested_trees}};
 ghost use Rattle.open_commits.specs.OpenCommit.{commit_held, shown_in, IsCommitHeld};
-ghost use Rattle.open_commits.specs.Ends.{closed, commit_of, KeepsFiles};
-ghost use Rattle.open_commits.specs.Storing.{LeavesTrees};
+ghost use Rattle.open_commits.specs.{Ends.{closed, commit_of, KeepsFiles}, Storing.{LeavesTrees}};
 ghost use Rattle.open_commits.specs.Calls.{AddsOnly, Gives};
 
 use crate::fault::Fault;

@@ -1,14 +1,11 @@
 //! Files whose contents are inline: git-fast-import(1), "filemodify", with `inline`.
 
-ghost use Rattle.std.specs.Prelude.{◌≡◌, ◌≢◌, OnErr, OnOk};
+ghost use Rattle.std.specs.Prelude.{◌≢◌, OnErr, OnOk};
 ghost use Rattle.git_model.specs.Content.{content_from};
-ghost use Rattle.tenant_tables.specs.Lent.{Keeps, IsUnchanged};
-ghost use Rattle.tenant_tables.specs.Objects.{objects};
-ghost use Rattle.tenant_tables.specs.Room.{HasHoldsLeftBeside};
-ghost use Rattle.tenant_tables.specs.IsBackedBy.{IsBackedBy};
-ghost use Rattle.open_commits.specs.OpenCommit.{shown_in, IsCommitHeld};
+ghost use Rattle.tenant_tables.specs.{Lent.{Keeps, IsUnchanged}, Objects.{objects}};
+ghost use Rattle.tenant_tables.specs.{Room.{HasHoldsLeftBeside}, IsBackedBy.{IsBackedBy}};
+ghost use Rattle.open_commits.specs.{OpenCommit.{shown_in, IsCommitHeld}, Calls.{AddsOnly, Gives}};
 ghost use Rattle.open_commits.specs.Changes.{contents_put, blob_put, left_with};
-ghost use Rattle.open_commits.specs.Calls.{AddsOnly, Gives};
 
 use crate::fault::Fault;
 use crate::open_commit::OpenCommit;

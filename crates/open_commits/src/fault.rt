@@ -2,9 +2,9 @@
 
 ghost use Rattle.std.specs.Prelude.{◌≡◌};
 ghost use Rattle.open_commits.specs.Faults.{code_of};
+ghost use Rattle.open_commits.specs.declared.fault.Fault.TheVariants as fault;
 
 use git_objects::Memory;
-use std::alloc::{AllocError, AllocFailed};
 use thiserror::Error;
 
 /// Why a call of an open commit is refused.
@@ -12,28 +12,28 @@ use thiserror::Error;
 pub enum Fault {
     /// No object has this mark: 13.
     #[error("no object has this mark")]
-    MarkUnknown,
+    MarkUnknown = 13,
     /// The repository has no object of this name: 14.
     #[error("object unknown")]
-    ObjectUnknown,
+    ObjectUnknown = 14,
     /// The object is of another kind than the command asks for: 15.
     #[error("the object is of another kind")]
-    WrongKind,
+    WrongKind = 15,
     /// No file is at or below the source: 18.
     #[error("source missing")]
-    SourceMissing,
+    SourceMissing = 18,
     /// A file would be at the root: 20.
     #[error("root must be a directory")]
-    RootNotDirectory,
+    RootNotDirectory = 20,
     /// The repository has another content of the same object name: 24.
     #[error("another content has this object name")]
-    NameCollision,
+    NameCollision = 24,
     /// A limit is exceeded: 25.
     #[error("a limit is passed")]
-    Limit,
+    Limit = 25,
     /// An allocation failed: 90.
     #[error("out of memory")]
-    Memory,
+    Memory = 90,
 }
 
 impl Fault {
@@ -41,22 +41,11 @@ impl Fault {
     pub fn code(self) -> u16
         ensures { result ≡ code_of self }
     {
-        match self {
-            Fault::MarkUnknown => 13,
-            Fault::ObjectUnknown => 14,
-            Fault::WrongKind => 15,
-            Fault::SourceMissing => 18,
-            Fault::RootNotDirectory => 20,
-            Fault::NameCollision => 24,
-            Fault::Limit => 25,
-            Fault::Memory => 90,
-        }
+        self as u16
     }
 }
 
 impl From<Memory> for Fault {
-    ghost use Rattle.open_commits.specs.declared.fault.Fault.TheVariants as fault;
-
     ghost from_gives = { λ _ refused. refused ≡ fault.Memory };
 
     fn from(_refused: Memory) -> Fault {
@@ -64,30 +53,10 @@ impl From<Memory> for Fault {
     }
 }
 
-impl From<AllocError> for Fault {
-    ghost use Rattle.open_commits.specs.declared.fault.Fault.TheVariants as fault;
-
-    ghost from_gives = { λ _ refused. refused ≡ fault.Memory };
-
-    fn from(_refused: AllocError) -> Fault {
-        Fault::Memory
-    }
-}
-
-impl<T: Drop> From<AllocFailed<T>> for Fault {
-    ghost use Rattle.open_commits.specs.declared.fault.Fault.TheVariants as fault;
-
-    ghost from_gives = { λ _ refused. refused ≡ fault.Memory };
-
-    fn from(_refused: AllocFailed<T>) -> Fault {
-        Fault::Memory
-    }
-}
-
 impl From<file_maps::Fault> for Fault {
     ghost use Rattle.open_commits.specs.Faults.{editing_fault};
 
-    ghost from_gives = { λ refusal fault. fault ≡ editing_fault refusal };
+    ghost from_gives = { λ refusal refused. refused ≡ editing_fault refusal };
 
     fn from(refusal: file_maps::Fault) -> Fault {
         match refusal {
@@ -105,7 +74,7 @@ impl From<file_maps::Fault> for Fault {
 impl From<tenant_tables::Fault> for Fault {
     ghost use Rattle.open_commits.specs.Faults.{storing_fault};
 
-    ghost from_gives = { λ refusal fault. fault ≡ storing_fault refusal };
+    ghost from_gives = { λ refusal refused. refused ≡ storing_fault refusal };
 
     fn from(refusal: tenant_tables::Fault) -> Fault {
         match refusal {

@@ -2,22 +2,18 @@
 //! nothing.
 
 ghost use Rattle.std.specs.Prelude.{◌≡◌, ℕ, List, IfOk, Some};
-ghost use Rattle.git_model.specs.declared.file_mode.FileMode.{FileMode};
-ghost use Rattle.git_model.specs.declared.kind.Kind.TheVariants as kind;
-ghost use Rattle.git_model.specs.GoodRepository.{AreObjects};
-ghost use Rattle.git_model.specs.References.{kind_named};
-ghost use Rattle.git_model.specs.Repository.{Object};
+ghost use Rattle.git_model.specs.{declared.file_mode.FileMode.{FileMode}, References.{kind_named}};
+ghost use Rattle.git_model.specs.{GoodRepository.{AreObjects}, Repository.{Object}};
 ghost use Rattle.git_names.specs.Naming.{AnswersNames};
 ghost use Rattle.git_paths.specs.Paths.{IsPath};
 ghost use Rattle.stream_grammar.specs.declared.data_ref.DataRef.{DataRef};
 ghost use Rattle.stream_grammar.specs.WellFormed.{IsReferred};
-ghost use Rattle.file_maps.specs.FileMap.{Path};
-ghost use Rattle.file_maps.specs.StoredFiles.{tree_of_commit};
-ghost use Rattle.open_commits.specs.Changes.{Marks, contents_put, copied_to, deleted, modified, renamed_to};
-ghost use Rattle.open_commits.specs.GoodCommits.{AreMarks};
-ghost use Rattle.open_commits.specs.OpenCommit.{OpenCommit};
-ghost use Rattle.open_commits.specs.Parents.{started_from};
+ghost use Rattle.file_maps.specs.{FileMap.{Path}, StoredFiles.{tree_of_commit}};
+ghost use Rattle.open_commits.specs.Changes.{Marks, contents_put, copied_to, deleted, modified};
+ghost use Rattle.open_commits.specs.{Changes.{renamed_to}, GoodCommits.{AreMarks}};
+ghost use Rattle.open_commits.specs.{OpenCommit.{OpenCommit}, Parents.{started_from}};
 ghost use Rattle.open_commits.specs.OpenFiles.{HasFiles};
+ghost use Rattle.git_model.specs.declared.kind.Kind.TheVariants as kind;
 
 /// Whatever a command changes in an open commit, its files stay those of a branch.
 pub fn changes_keep_file_maps()

@@ -1,21 +1,19 @@
 //! Laws of open commits: theorems about the definitions alone. The functions do nothing.
 
 ghost use Rattle.std.specs.Prelude.{◌≡◌, ℕ, List, [], ◌++◌, Ok, Some};
-ghost use Rattle.git_model.specs.declared.file_mode.FileMode.{FileMode};
-ghost use Rattle.git_model.specs.declared.kind.Kind.TheVariants as kind;
-ghost use Rattle.git_model.specs.GoodRepository.{AreObjects};
-ghost use Rattle.git_model.specs.References.{kind_named};
-ghost use Rattle.git_model.specs.Repository.{Object};
+ghost use Rattle.git_model.specs.{declared.file_mode.FileMode.{FileMode}, References.{kind_named}};
+ghost use Rattle.git_model.specs.{GoodRepository.{AreObjects}, Repository.{Object}};
 ghost use Rattle.git_names.specs.Naming.{AnswersNames};
 ghost use Rattle.stream_grammar.specs.declared.data_ref.DataRef.{DataRef};
 ghost use Rattle.tenant_tables.specs.Sums.{TreesFit};
 ghost use Rattle.file_maps.specs.FileMap.{Path, AreFiles, listed};
-ghost use Rattle.open_commits.specs.OpenCommit.{Header, OpenCommit, begun};
-ghost use Rattle.open_commits.specs.Parents.{started_from, merged};
-ghost use Rattle.open_commits.specs.Changes.{Marks, Left, modified, contents_put, deleted, copied_to, renamed_to, all_deleted};
-ghost use Rattle.open_commits.specs.Showing.{Shown, entry_shown};
-ghost use Rattle.open_commits.specs.Ends.{Closed, closed};
-ghost use Rattle.open_commits.specs.GoodCommits.{AreMarks, IsGoodHeader, IsGoodCommit, GrowGood, HoldsCommit};
+ghost use Rattle.open_commits.specs.{OpenCommit.{Header, OpenCommit, begun}, Ends.{Closed, closed}};
+ghost use Rattle.open_commits.specs.{Parents.{started_from, merged}, Showing.{Shown, entry_shown}};
+ghost use Rattle.open_commits.specs.Changes.{Marks, Left, modified, contents_put, deleted};
+ghost use Rattle.open_commits.specs.Changes.{copied_to, renamed_to, all_deleted};
+ghost use Rattle.open_commits.specs.GoodCommits.{AreMarks, IsGoodHeader, IsGoodCommit, GrowGood};
+ghost use Rattle.open_commits.specs.GoodCommits.{HoldsCommit};
+ghost use Rattle.git_model.specs.declared.kind.Kind.TheVariants as kind;
 
 /// A new commit is good if its header can be written.
 pub fn a_commit_begins_good()

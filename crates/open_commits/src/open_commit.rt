@@ -6,7 +6,8 @@
 ghost use Rattle.std.specs.Prelude.{◌≡◌, List, IfOk};
 ghost use Rattle.git_model.specs.Repository.{Object};
 ghost use Rattle.tree_build.specs.Branch.{IsBranch, files_in};
-ghost use Rattle.open_commits.specs.OpenCommit.{begun_on, commit_held, header_shown, shown_in, IsCommitHeld};
+ghost use Rattle.open_commits.specs.OpenCommit.{begun_on, commit_held, header_shown, shown_in};
+ghost use Rattle.open_commits.specs.OpenCommit.{IsCommitHeld};
 
 use git_names::{Ident, Memory, Name, RefName};
 use std::alloc::Global;

@@ -1,18 +1,14 @@
 //! The parents of an open commit: git-fast-import(1), "from" and "merge".
 
 ghost use Rattle.std.specs.Prelude.{◌≡◌, ◌≢◌, List, None, Some, Err, MatchResult, OnOk};
-ghost use Rattle.git_model.specs.declared.kind.Kind.TheVariants as kind;
 ghost use Rattle.git_model.specs.Commit.{Commit, CanWriteCommit, commit_contents};
-ghost use Rattle.git_model.specs.GoodRepository.{AreObjects};
-ghost use Rattle.git_model.specs.References.{kind_named};
+ghost use Rattle.git_model.specs.{GoodRepository.{AreObjects}, References.{kind_named}};
 ghost use Rattle.git_model.specs.Repository.{Object};
-ghost use Rattle.tenant_tables.specs.Objects.{objects};
-ghost use Rattle.tenant_tables.specs.IsBackedBy.{IsBackedBy};
-ghost use Rattle.file_maps.specs.Grafts.{tree_fault};
-ghost use Rattle.file_maps.specs.StoredFiles.{tree_of_commit};
+ghost use Rattle.tenant_tables.specs.{Objects.{objects}, IsBackedBy.{IsBackedBy}};
+ghost use Rattle.file_maps.specs.{Grafts.{tree_fault}, StoredFiles.{tree_of_commit}};
 ghost use Rattle.open_commits.specs.OpenCommit.{commit_held, shown_in, tree_known, IsCommitHeld};
-ghost use Rattle.open_commits.specs.Parents.{started_from, merged};
-ghost use Rattle.open_commits.specs.Calls.{Changes};
+ghost use Rattle.open_commits.specs.{Parents.{started_from, merged}, Calls.{Changes}};
+ghost use Rattle.git_model.specs.declared.kind.Kind.TheVariants as kind;
 
 use crate::fault::Fault;
 use crate::open_commit::OpenCommit;
@@ -83,7 +79,7 @@ impl OpenCommit {
         let tree = tree_of_commit(pool, table, &id)?;
         self.put_tree(pool, table, &Path::root(self.alloc), &tree)?;
         self.parents.clear();
-        self.parents.push(id)?;
+        self.parents.push(id).or(Err(Fault::Memory))?;
         Ok(())
     }
 
@@ -101,7 +97,7 @@ impl OpenCommit {
         if self.parents.len() >= PARENTS_LIMIT {
             return Err(Fault::Limit);
         }
-        self.parents.push(id)?;
+        self.parents.push(id).or(Err(Fault::Memory))?;
         Ok(())
     }
 }

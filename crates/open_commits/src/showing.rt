@@ -1,16 +1,12 @@
 //! What is at a path of an open commit: git-fast-import(1), "ls".
 
 ghost use Rattle.std.specs.Prelude.{◌≡◌};
-ghost use Rattle.tenant_tables.specs.Lent.{Keeps};
-ghost use Rattle.tenant_tables.specs.Objects.{objects};
-ghost use Rattle.tenant_tables.specs.Room.{HasHoldsLeftBeside};
+ghost use Rattle.tenant_tables.specs.{Lent.{Keeps}, Objects.{objects}, Room.{HasHoldsLeftBeside}};
 ghost use Rattle.tenant_tables.specs.IsBackedBy.{IsBackedBy};
-ghost use Rattle.file_maps.specs.Edits.{files_at};
-ghost use Rattle.file_maps.specs.Trees.{nested_trees};
-ghost use Rattle.open_commits.specs.OpenCommit.{shown_in, IsCommitHeld};
-ghost use Rattle.open_commits.specs.Showing.{entry_shown, file_or_trees, shown_trees, trees_by_mode};
-ghost use Rattle.open_commits.specs.Storing.{LeavesTrees};
-ghost use Rattle.open_commits.specs.Calls.{AddsOnly, Gives};
+ghost use Rattle.file_maps.specs.{Edits.{files_at}, Trees.{nested_trees}};
+ghost use Rattle.open_commits.specs.{OpenCommit.{shown_in, IsCommitHeld}, Showing.{trees_by_mode}};
+ghost use Rattle.open_commits.specs.Showing.{entry_shown, file_or_trees, shown_trees};
+ghost use Rattle.open_commits.specs.{Storing.{LeavesTrees}, Calls.{AddsOnly, Gives}};
 
 use crate::fault::Fault;
 use crate::open_commit::OpenCommit;

@@ -2,12 +2,9 @@
 
 ghost use Rattle.std.specs.Prelude.{◌≡◌, ◌≢◌, OnErr, IfOk};
 ghost use Rattle.git_model.specs.Content.{content_from, name_by};
-ghost use Rattle.tenant_tables.specs.Lent.{Keeps, IsUnchanged};
-ghost use Rattle.tenant_tables.specs.Objects.{objects};
-ghost use Rattle.tenant_tables.specs.Room.{HasHoldsLeftBeside};
-ghost use Rattle.tenant_tables.specs.IsBackedBy.{IsBackedBy};
-ghost use Rattle.open_commits.specs.Storing.{stored};
-ghost use Rattle.open_commits.specs.Calls.{AddsOnly, Gives};
+ghost use Rattle.tenant_tables.specs.{Lent.{Keeps, IsUnchanged}, Objects.{objects}};
+ghost use Rattle.tenant_tables.specs.{Room.{HasHoldsLeftBeside}, IsBackedBy.{IsBackedBy}};
+ghost use Rattle.open_commits.specs.{Storing.{stored}, Calls.{AddsOnly, Gives}};
 
 use crate::fault::Fault;
 use content_pool::Pool;

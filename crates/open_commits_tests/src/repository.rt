@@ -43,8 +43,7 @@ struct Repository<N: Naming> {
 
 impl<N: Naming> Model for Repository<N> {
     ghost use Rattle.std.specs.Prelude.{ℕ, IfSome};
-    ghost use Rattle.tenant_tables.specs.IsBackedBy.{IsBackedBy};
-    ghost use Rattle.tenant_tables.specs.Room.{HasHoldsLeftBeside};
+    ghost use Rattle.tenant_tables.specs.{IsBackedBy.{IsBackedBy}, Room.{HasHoldsLeftBeside}};
     ghost use Rattle.tenant_tables.specs.Objects.{objects};
     ghost use Rattle.open_commits.specs.OpenCommit.{IsCommitHeld};
 

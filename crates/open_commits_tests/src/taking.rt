@@ -5,8 +5,8 @@
 ghost use Rattle.std.specs.Prelude.{◌≡◌, ◌≢◌, List, None, Err, IsTrue, IfSome};
 ghost use Rattle.git_model.specs.Repository.{Object as StoredObject};
 ghost use Rattle.tree_build.specs.Branch.{IsBranch};
-ghost use Rattle.open_commits.specs.declared.fault.Fault.TheVariants as fault;
 ghost use Rattle.open_commits.specs.OpenCommit.{IsCommitHeld};
+ghost use Rattle.open_commits.specs.declared.fault.Fault.TheVariants as fault;
 
 use open_commits::{Fault, Header, OpenCommit};
 use std::alloc::Global;

@@ -72,56 +72,44 @@ module _ (digest : List ℕ → List ℕ) (os : List Object) (good : AreObjects 
   unfolding object_at
   taken k lt = take_more os k no_object lt
 
-  one-told : (k : ℕ) → k < length os → (b : Bool) → m (object_at k os) ≡ b
-      → filter_map told_at (map place (filter m (object_at k os ∷ []))) ≡ map told_of (filter m (object_at k os ∷ []))
-  one-told k lt false is = rw is refl
-  one-told k lt true is = rw (is, good.distinct k lt, found-at os k lt) refl
+  -- What a list has for each missing place is what it has for each missing object.
+  module _ (A : Type 0) (listed : List ℕ → List A) (f : Object → A) (none : listed [] ≡ [])
+      (append : (x y : List ℕ) → listed (x ++ y) ≡ listed x ++ listed y)
+      (one : (k : ℕ) → k < length os → listed (k ∷ []) ≡ f (object_at k os) ∷ []) where
+    listed-one : (k : ℕ) → k < length os → (b : Bool) → m (object_at k os) ≡ b
+        → listed (map place (filter m (object_at k os ∷ []))) ≡ map f (filter m (object_at k os ∷ []))
+    listed-one k lt false is = rw is none
+    listed-one k lt true is = rw (is, good.distinct k lt) (one k lt)
 
-  told-to : (k : ℕ) → k ≤ length os → filter_map told_at (map place (filter m (take k os))) ≡ map told_of (filter m (take k os))
-  told-to zero le = refl
-  told-to (suc k) le =
-      let lt : k < length os = omega arith in
-      let x : List Object = take k os in
-      let y : List Object = object_at k os ∷ [] in
-      let front : take (suc k) os ≡ x ++ y = ap (λ n. take n os) (sym (add-one k)) ∙ taken k lt in
-      let parts : filter m (take (suc k) os) ≡ filter m x ++ filter m y = ap (filter m) front ∙ filter-append m x y in
-      ap (λ l. filter_map told_at (map place l)) parts
-      ∙ ap (filter_map told_at) (map-append place (filter m x) (filter m y))
-      ∙ filter_map-append told_at (map place (filter m x)) (map place (filter m y))
-      ∙ ap₂ (λ a b. a ++ b) (told-to k (omega arith)) (one-told k lt (m (object_at k os)) refl)
-      ∙ sym (map-append told_of (filter m x) (filter m y))
-      ∙ ap (map told_of) (sym parts)
+    listed-to : (k : ℕ) → k ≤ length os → listed (map place (filter m (take k os))) ≡ map f (filter m (take k os))
+    listed-to zero le = none
+    listed-to (suc k) le =
+        let lt : k < length os = omega arith in
+        let x : List Object = take k os in
+        let y : List Object = object_at k os ∷ [] in
+        let front : take (suc k) os ≡ x ++ y = ap (λ n. take n os) (sym (add-one k)) ∙ taken k lt in
+        let parts : filter m (take (suc k) os) ≡ filter m x ++ filter m y = ap (filter m) front ∙ filter-append m x y in
+        ap (λ l. listed (map place l)) parts
+        ∙ ap listed (map-append place (filter m x) (filter m y))
+        ∙ append (map place (filter m x)) (map place (filter m y))
+        ∙ ap₂ (λ a b. a ++ b) (listed-to k (omega arith)) (listed-one k lt (m (object_at k os)) refl)
+        ∙ sym (map-append f (filter m x) (filter m y))
+        ∙ ap (map f) (sym parts)
+
+    listed-all : listed (missing_places os wants haves) ≡ map f (missing os wants haves)
+    listed-all =
+        let all = take_all (length os) os (omega arith) in
+        ap (λ l. listed (map place (filter m l))) (sym all) ∙ listed-to (length os) (omega arith)
+        ∙ ap (λ l. map f (filter m l)) all
 
   -- What is told of these places is told of the missing objects.
   pub missing-told : filter_map told_at (missing_places os wants haves) ≡ map told_of (missing os wants haves)
   missing-told =
-      let all = take_all (length os) os (omega arith) in
-      ap (λ l. filter_map told_at (map place (filter m l))) (sym all) ∙ told-to (length os) (omega arith)
-      ∙ ap (λ l. map told_of (filter m l)) all
-
-  one-content : (k : ℕ) → k < length os → (b : Bool) → m (object_at k os) ≡ b
-      → contents_at os (map place (filter m (object_at k os ∷ []))) ≡ map (λ o. o.content) (filter m (object_at k os ∷ []))
-  one-content k lt false is = rw is refl
-  one-content k lt true is = rw (is, good.distinct k lt) refl
-
-  contents-to : (k : ℕ) → k ≤ length os → contents_at os (map place (filter m (take k os))) ≡ map (λ o. o.content) (filter m (take k os))
-  contents-to zero le = refl
-  contents-to (suc k) le =
-      let lt : k < length os = omega arith in
-      let x : List Object = take k os in
-      let y : List Object = object_at k os ∷ [] in
-      let front : take (suc k) os ≡ x ++ y = ap (λ n. take n os) (sym (add-one k)) ∙ taken k lt in
-      let parts : filter m (take (suc k) os) ≡ filter m x ++ filter m y = ap (filter m) front ∙ filter-append m x y in
-      ap (λ l. contents_at os (map place l)) parts
-      ∙ ap (contents_at os) (map-append place (filter m x) (filter m y))
-      ∙ map-append (λ p. (object_at p os).content) (map place (filter m x)) (map place (filter m y))
-      ∙ ap₂ (λ a b. a ++ b) (contents-to k (omega arith)) (one-content k lt (m (object_at k os)) refl)
-      ∙ sym (map-append (λ o. o.content) (filter m x) (filter m y))
-      ∙ ap (map (λ o. o.content)) (sym parts)
+      listed-all MissingObject (filter_map told_at) told_of refl (filter_map-append told_at) (λ k lt. rw (found-at os k lt) refl)
 
   -- The contents at these places are those of the missing objects.
-  pub missing-contents : contents_at os (missing_places os wants haves) ≡ map (λ o. o.content) (missing os wants haves)
-  missing-contents =
-      let all = take_all (length os) os (omega arith) in
-      ap (λ l. contents_at os (map place (filter m l))) (sym all) ∙ contents-to (length os) (omega arith)
-      ∙ ap (λ l. map (λ o. o.content) (filter m l)) all
+  pub missing-contents : (places : List ℕ) → places ≡ missing_places os wants haves
+      → contents_at os places ≡ map (λ o. o.content) (missing os wants haves)
+  missing-contents places are =
+      ap (contents_at os) are
+      ∙ listed-all Content (contents_at os) (λ o. o.content) refl (map-append (λ p. (object_at p os).content)) (λ k lt. refl)

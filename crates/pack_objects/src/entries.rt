@@ -1,10 +1,10 @@
 //! Objects as the entries of a pack.
 
 ghost use Rattle.std.specs.Prelude.{◌≡◌, ◌++◌, OnErr, OnOk, length, take};
-ghost use Rattle.git_model.specs.Content.{content_from};
-ghost use Rattle.git_model.specs.declared.kind.Kind.{Kind};
+ghost use Rattle.git_model.specs.{Content.{content_from}, declared.kind.Kind.{Kind}};
 ghost use Rattle.pack_text.specs.PackText.{entry_text};
-ghost use Rattle.pack_objects.specs.Entries.{AppendsAnswer, Measures, entries_asked, entries_text, left_after};
+ghost use Rattle.pack_objects.specs.Entries.{AppendsAnswer, Measures, entries_asked, entries_text};
+ghost use Rattle.pack_objects.specs.Entries.{left_after};
 
 use crate::fault::PackFault;
 use git_objects::{Memory, Name, Naming};

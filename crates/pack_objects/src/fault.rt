@@ -1,8 +1,8 @@
 //! Why a question for a pack is refused.
 
 ghost use Rattle.std.specs.Prelude.{◌≡◌};
-ghost use Rattle.pack_objects.specs.Faults.{code_of, of_missing};
-ghost use Rattle.pack_objects.specs.declared.fault.PackFault.TheVariants.{Memory as OutOfMemory};
+ghost use Rattle.pack_objects.specs.Faults.{code_of};
+ghost use Rattle.pack_objects.specs.declared.fault.PackFault.TheVariants as fault;
 
 use git_objects::Memory;
 use missing_objects::MissingFault;
@@ -13,38 +13,19 @@ use thiserror::Error;
 pub enum PackFault {
     /// A wanted name, or the name of an entry, is that of no object: 16.
     #[error("unknown object")]
-    UnknownObject,
+    UnknownObject = 16,
     /// The entries are longer than the caller allows: 25.
     #[error("limit passed")]
-    Limit,
+    Limit = 25,
     /// No tenant can have this name: 32. Only calls that are given the name of a tenant answer it.
     #[error("bad tenant name")]
-    BadTenantName,
+    BadTenantName = 32,
     /// A call of the writer failed: 68. Only calls that write answer it.
     #[error("device failed")]
-    Device,
+    Device = 68,
     /// An allocation failed: 90.
     #[error("out of memory")]
-    Memory,
-}
-
-impl From<Memory> for PackFault {
-    ghost from_gives = { λ refusal e. e ≡ OutOfMemory };
-
-    fn from(_: Memory) -> PackFault {
-        PackFault::Memory
-    }
-}
-
-impl From<MissingFault> for PackFault {
-    ghost from_gives = { λ refusal e. e ≡ of_missing refusal };
-
-    fn from(fault: MissingFault) -> PackFault {
-        match fault {
-            MissingFault::UnknownWant => PackFault::UnknownObject,
-            MissingFault::Memory => PackFault::Memory,
-        }
-    }
+    Memory = 90,
 }
 
 impl PackFault {
@@ -53,12 +34,27 @@ impl PackFault {
     pub fn code(self) -> u16
         ensures { result ≡ code_of self }
     {
-        match self {
-            PackFault::UnknownObject => 16,
-            PackFault::Limit => 25,
-            PackFault::BadTenantName => 32,
-            PackFault::Device => 68,
-            PackFault::Memory => 90,
+        self as u16
+    }
+}
+
+impl From<Memory> for PackFault {
+    ghost from_gives = { λ _ refused. refused ≡ fault.Memory };
+
+    fn from(_refused: Memory) -> PackFault {
+        PackFault::Memory
+    }
+}
+
+impl From<MissingFault> for PackFault {
+    ghost use Rattle.pack_objects.specs.Faults.{of_missing};
+
+    ghost from_gives = { λ refusal e. e ≡ of_missing refusal };
+
+    fn from(fault: MissingFault) -> PackFault {
+        match fault {
+            MissingFault::UnknownWant => PackFault::UnknownObject,
+            MissingFault::Memory => PackFault::Memory,
         }
     }
 }

@@ -1,23 +1,11 @@
 //! Missing objects as bytes, 29 for each.
 
-ghost use Rattle.std.specs.Prelude.{◌≡◌, ◌++◌, OnOk, length, take};
-ghost use Rattle.std.specs.List.{flat_map};
-ghost use Rattle.pack_text.specs.PackText.{number_of};
+ghost use Rattle.std.specs.Prelude.{◌≡◌, ◌++◌, OnOk};
 ghost use Rattle.pack_objects.specs.Listing.{listing_text, record_text};
 
 use crate::missing_object::MissingObject;
-use git_objects::{Kind, Memory};
-
-fn number_of(kind: Kind) -> u8
-    ensures { result ≡ number_of kind }
-{
-    match kind {
-        Kind::Commit => 1,
-        Kind::Tree => 2,
-        Kind::Blob => 3,
-        Kind::Tag => 4,
-    }
-}
+use git_objects::Memory;
+use pack_text::number_of;
 
 fn append_record(object: &MissingObject, out: &mut Vec<u8>) -> Result<(), Memory>
     ensures { OnOk result (out.new.items ≡ out.old.items ++ record_text object.now) }

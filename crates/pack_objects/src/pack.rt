@@ -1,10 +1,7 @@
 //! The pack of the missing objects, over a writer.
 
-ghost use Rattle.std.specs.Prelude.{◌≡◌, map};
 ghost use Rattle.byte_devices.specs.Device.{device_of, seen};
-ghost use Rattle.git_model.specs.Content.{content_from};
 ghost use Rattle.git_model.specs.GoodRepository.{AreObjects};
-ghost use Rattle.git_model.specs.References.{object_at};
 ghost use Rattle.pool_file_format.specs.Sinks.{Writes};
 ghost use Rattle.pack_text.specs.PackText.{pack_text};
 ghost use Rattle.pack_objects.specs.Packs.{WritesPack, contents_at, pack_asked};

@@ -1,9 +1,12 @@
 -- A writer in blocks: bytes that wait, bytes that go on, and bytes that the device fails at.
 use Rattle.std.proofs.Common.{◌≡◌, ℕ, List, [], ◌++◌, Option, Result, Ok, Err, refl, sym, ap, subst, ◌∙◌, append_assoc, append-nil}
+use Rattle.std.specs.Global.{Vec}
 use Rattle.byte_devices.specs.declared.counted.Counted.{Counted}
 use Rattle.byte_devices.specs.declared.device_fault.DeviceFault.{DeviceFault}
 use Rattle.pool_file_format.specs.Sinks.{Gives, Goes, HasWritten, HasBroken, Writes}
 use Rattle.pool_file_format.specs.AddingUp.{writers_add_up}
+use Rattle.pool_file_format.proofs.Pieces.{then_gives}
+use Rattle.pack_text.specs.AddingUp.{blocks_add_up}
 use Rattle.pack_text.specs.declared.block_writer.BlockWriter.{BlockWriter}
 use Rattle.pack_text.specs.BlockWriting.{seen_by, IsFed, TookBlocks, FailedBlocks}
 
@@ -59,6 +62,16 @@ module _ {D W : Type 0} (Holds : D → List ℕ → Type 0) (contents : W → Op
           ∙ ap (λ (l : List ℕ). was.sent ++ l) (sym is);
     },
   )
+
+  -- A block that stays as it is changes nothing of what comes next.
+  pub fed_after : (old new : BlockWriter D W) (block : Vec ℕ) (r : Result Unit DeviceFault) (bytes : List ℕ)
+      → block.items ≡ old.block.items
+      → Gives (TookBlocks Holds contents) (FailedBlocks Holds contents) (record old { block = block }) r new bytes
+      → Gives (TookBlocks Holds contents) (FailedBlocks Holds contents) old r new bytes
+  fed_after old new block r bytes same =
+      then_gives (TookBlocks Holds contents) (FailedBlocks Holds contents) old (record old { block = block }) new r [] bytes
+      (blocks_add_up Holds contents)
+      (fed_waits old (record old { block = block }) [] refl refl refl (same ∙ sym (append-nil old.block.items)))
 
   -- A writer in blocks whose digest and device got bytes past its block.
   abbrev pub passed : BlockWriter D W → D → Counted W → BlockWriter D W

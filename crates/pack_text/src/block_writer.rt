@@ -1,7 +1,6 @@
 //! A sink that gathers bytes in blocks, which it feeds to a digest and writes to a device.
 
-ghost use Rattle.std.specs.Prelude.{◌≡◌, [], ◌++◌, OnOk, OnErr};
-ghost use Rattle.std.specs.Bool.{OnTrue, OnFalse};
+ghost use Rattle.std.specs.{Prelude.{◌≡◌, [], ◌++◌, OnOk}, Bool.{OnTrue, OnFalse}};
 ghost use Rattle.byte_devices.specs.Device.{device_of, seen};
 ghost use Rattle.pool_file_format.specs.Sinks.{Gives, Goes, Writes};
 ghost use Rattle.pack_text.specs.BlockWriting.{TookBlocks, FailedBlocks};

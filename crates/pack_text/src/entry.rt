@@ -4,8 +4,8 @@ ghost use Rattle.std.specs.Prelude.{◌≡◌, ◌-◌, ◌≤◌, ◌<◌, ◌�
 ghost use Rattle.std.specs.Int.{w16, w32, to_be_bytes, to_le_bytes};
 ghost use Rattle.git_model.specs.Content.{content_from};
 ghost use Rattle.pool_file_format.specs.Sinks.{Gives};
-ghost use Rattle.pack_text.specs.Adler.{adler32};
-ghost use Rattle.pack_text.specs.PackText.{block_text, blocks_text, entry_text, head_text, number_of, size_text, zlib_text};
+ghost use Rattle.pack_text.specs.{Adler.{adler32}, PackText.{number_of, size_text, zlib_text}};
+ghost use Rattle.pack_text.specs.PackText.{block_text, blocks_text, entry_text, head_text};
 
 use crate::adler::adler32;
 use crate::sink::Sink;
@@ -15,7 +15,8 @@ use git_model::{Kind, Memory};
 // The most bytes of a stored block.
 const STORED: usize = 65_535;
 
-fn number_of(kind: Kind) -> u8
+/// The number that a pack has for a kind.
+pub fn number_of(kind: Kind) -> u8
     ensures { result ≡ number_of kind }
 {
     match kind {

@@ -2,9 +2,8 @@
 
 ghost use Rattle.std.specs.Prelude.{◌≡◌, ℕ, ◌<◌, ◌^◌, ◌++◌, List, length, All, Some};
 ghost use Rattle.git_model.specs.Content.{Content};
-ghost use Rattle.pack_text.specs.PackText.{entry_text, pack_text};
+ghost use Rattle.pack_text.specs.{PackText.{entry_text, pack_text}, Contents.{FitsEntry}};
 ghost use Rattle.pack_text.specs.PackReading.{entry_read, pack_read};
-ghost use Rattle.pack_text.specs.Contents.{FitsEntry};
 
 /// The entry of an object is read as its kind and contents, whatever comes after it.
 pub fn entries_are_read_back()

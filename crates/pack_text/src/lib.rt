@@ -15,7 +15,7 @@ mod pack_contents;
 mod sink;
 
 pub use adler::adler32;
-pub use entry::append_entry;
+pub use entry::{append_entry, number_of};
 pub use entry_length::entry_len;
 pub use pack::write_pack;
 pub use pack_contents::PackContents;

@@ -1,7 +1,6 @@
 //! Whole packs.
 
-ghost use Rattle.std.specs.Prelude.{◌≡◌, ◌%◌, [], OnOk};
-ghost use Rattle.std.specs.List.{flat_map};
+ghost use Rattle.std.specs.{Prelude.{◌≡◌, ◌%◌, [], OnOk}, List.{flat_map}};
 ghost use Rattle.byte_devices.specs.Device.{device_of, seen};
 ghost use Rattle.pool_file_format.specs.Sinks.{Gives, Writes};
 ghost use Rattle.pack_text.specs.BlockWriting.{TookBlocks, FailedBlocks};

@@ -1,7 +1,6 @@
 //! What a pack is made of.
 
-ghost use Rattle.std.specs.Prelude.{◌≡◌, List, length, slice_get};
-ghost use Rattle.std.specs.Option.{option_map};
+ghost use Rattle.std.specs.{Prelude.{◌≡◌, List, length, slice_get}, Option.{option_map}};
 ghost use Rattle.git_model.specs.Content.{Content, content_from};
 
 use git_model::Kind;

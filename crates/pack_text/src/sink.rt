@@ -2,8 +2,7 @@
 
 ghost use Rattle.std.specs.Prelude.{ℕ, List};
 ghost use Rattle.pool_file_format.specs.Sinks.{Gives, AddsUp};
-ghost use Rattle.pack_text.specs.Sinks.{HasAppended, HasBegun};
-ghost use Rattle.pack_text.specs.AddingUp.{vectors_add_up};
+ghost use Rattle.pack_text.specs.{Sinks.{HasAppended, HasBegun}, AddingUp.{vectors_add_up}};
 
 use byte_devices::DeviceFault;
 

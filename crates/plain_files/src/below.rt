@@ -1,11 +1,11 @@
 //! Files below a directory, and the groups that they make by their first components.
 
 ghost use Rattle.std.specs.Prelude.{◌≡◌, ◌≤◌, [], ◌∷◌, length, IfOk, MatchOption, ◌&&◌, not};
-ghost use Rattle.std.specs.List.{prefix_len};
-ghost use Rattle.std.specs.Option.{option_map};
+ghost use Rattle.std.specs.{List.{prefix_len}, Option.{option_map}};
 ghost use Rattle.file_maps.specs.Edits.{cut, is_root, is_empty};
 ghost use Rattle.file_maps.specs.Trees.{grouped, file_of, depth_of};
-ghost use Rattle.plain_files.specs.Below.{file_below, files_below, groups_of, split_first, next_name, goes_with, group_of, IsNextGroup};
+ghost use Rattle.plain_files.specs.Below.{file_below, files_below, groups_of, split_first};
+ghost use Rattle.plain_files.specs.Below.{next_name, goes_with, group_of, IsNextGroup};
 ghost use Rattle.git_paths.specs.Paths.{strip_prefix};
 
 use crate::map::Entries;

@@ -1,11 +1,9 @@
 //! Whether files may be put into a file map.
 
-ghost use Rattle.std.specs.Prelude.{◌≡◌, ◌≤◌, ◌+◌, length, nat_le};
-ghost use Rattle.std.specs.List.{list_any, list_all};
+ghost use Rattle.std.specs.{Prelude.{◌≡◌, ◌≤◌, ◌+◌, length, nat_le}, List.{list_any, list_all}};
 ghost use Rattle.git_model.specs.Limits.{files_limit};
 ghost use Rattle.git_paths.specs.Paths.{IsPath, is_within_limits};
-ghost use Rattle.file_maps.specs.Edits.{is_root, is_empty};
-ghost use Rattle.file_maps.specs.Kept.{refusal_beside};
+ghost use Rattle.file_maps.specs.{Edits.{is_root, is_empty}, Kept.{refusal_beside}};
 
 use file_maps::{Entry, FILES_LIMIT, Fault};
 use git_paths::Path;

@@ -6,20 +6,16 @@
 //!
 //! After `put` at `a/b` and then at `a`, the only file is `a`.
 
-ghost use Rattle.std.specs.Prelude.{◌≡◌, ◌≢◌, List, [], ◌∷◌, None, Some, IfOk};
+ghost use Rattle.std.specs.{Prelude.{◌≡◌, ◌≢◌, [], ◌∷◌, None, Some, IfOk}, List.{AllByRecursion}};
+ghost use Rattle.std.specs.Option.{option_copied};
+ghost use Rattle.file_maps.specs.{FileMap.{ArePairwiseApart, AreFiles, listed}, Calls.{Edits}};
+ghost use Rattle.file_maps.specs.Edits.{files_at, moved, put_at, copied, renamed, without};
+ghost use Rattle.file_maps.specs.{Edits.{put_fault, move_fault}, Kept.{replaced, IsBelow}};
+ghost use Rattle.file_maps.specs.{Grafts.{Grafts}, Trees.{entry_at, nested_trees, tree_id}};
+ghost use Rattle.file_maps.specs.Storing.{StoresTrees, HasHoldsLeftBeside};
+ghost use Rattle.tenant_tables.specs.{Objects.{objects}, IsBackedBy.{IsBackedBy, PreservesOthers}};
 ghost use Rattle.std.specs.FinMap as map;
 ghost use Rattle.git_model.specs.declared.file_mode.FileMode.TheVariants as mode;
-ghost use Rattle.std.specs.List.{AllByRecursion};
-ghost use Rattle.std.specs.Option.{option_copied};
-ghost use Rattle.file_maps.specs.FileMap.{ArePairwiseApart, AreFiles, listed};
-ghost use Rattle.file_maps.specs.Edits.{files_at, moved, put_at, copied, renamed, without, put_fault, move_fault};
-ghost use Rattle.file_maps.specs.Kept.{replaced, IsBelow};
-ghost use Rattle.file_maps.specs.Calls.{Edits};
-ghost use Rattle.file_maps.specs.Grafts.{Grafts};
-ghost use Rattle.file_maps.specs.Trees.{entry_at, nested_trees, tree_id};
-ghost use Rattle.file_maps.specs.Storing.{StoresTrees, HasHoldsLeftBeside};
-ghost use Rattle.tenant_tables.specs.Objects.{objects};
-ghost use Rattle.tenant_tables.specs.IsBackedBy.{IsBackedBy, PreservesOthers};
 
 use crate::below::files_at;
 use crate::check::{are_none, has_components, refusal_beside};

@@ -6,13 +6,12 @@
 ghost use Rattle.std.specs.Prelude.{◌≡◌, [], ◌∷◌, ◌++◌, Some, IsSome, IfOk, OnOk};
 ghost use Rattle.std.specs.List.{AllByRecursion};
 ghost use Rattle.git_model.specs.Tree.{IsEntryName};
-ghost use Rattle.git_model.specs.declared.file_mode.FileMode.TheVariants as mode;
 ghost use Rattle.git_objects.specs.Parts.{entry_of};
 ghost use Rattle.git_paths.specs.Paths.{IsPath};
-ghost use Rattle.tenant_tables.specs.Objects.{objects};
-ghost use Rattle.tenant_tables.specs.IsBackedBy.{IsBackedBy};
+ghost use Rattle.tenant_tables.specs.{Objects.{objects}, IsBackedBy.{IsBackedBy}};
 ghost use Rattle.tenant_tables.specs.View.{summary_of};
 ghost use Rattle.plain_files.specs.Gathers.{has_none, Gathers, GathersEntry};
+ghost use Rattle.git_model.specs.declared.file_mode.FileMode.TheVariants as mode;
 
 use crate::check::has_components;
 use content_pool::Pool;

@@ -1,10 +1,8 @@
 //! Maps from whole paths to entries, and how an edit of a file map changes one.
 
 ghost use Rattle.std.specs.Prelude.{◌≡◌, [], ◌∷◌, ◌++◌, length, filter, IfOk, OnOk};
-ghost use Rattle.std.specs.Map.{keys_of};
-ghost use Rattle.std.specs.Option.{option_copied};
-ghost use Rattle.file_maps.specs.FileMap.{is_apart};
-ghost use Rattle.file_maps.specs.Edits.{cut, moved, is_outside};
+ghost use Rattle.std.specs.{Map.{keys_of}, Option.{option_copied}};
+ghost use Rattle.file_maps.specs.{FileMap.{is_apart}, Edits.{cut, moved, is_outside}};
 ghost use Rattle.file_maps.specs.Kept.{stays, put_all};
 
 use file_maps::Entry;

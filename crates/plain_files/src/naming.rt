@@ -2,10 +2,9 @@
 
 ghost use Rattle.std.specs.Prelude.{◌≡◌, [], map, IfOk, OnOk};
 ghost use Rattle.git_objects.specs.Parts.{entry_of, entries_of};
-ghost use Rattle.file_maps.specs.Edits.{is_root};
+ghost use Rattle.file_maps.specs.{Edits.{is_root}, Below.{direct_of}};
 ghost use Rattle.file_maps.specs.Trees.{entries_within, tree_name, file_of, entry_or};
 ghost use Rattle.plain_files.specs.Below.{files_below, group_of, groups_of, entry_by, id_of};
-ghost use Rattle.file_maps.specs.Below.{direct_of};
 
 use crate::below::{Below, Group, depth_of, file_of, grouped, is_nowhere};
 use content_pool::Pool;

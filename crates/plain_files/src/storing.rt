@@ -1,15 +1,13 @@
 //! Storing the trees that files make, children first.
 
 ghost use Rattle.std.specs.Prelude.{◌≡◌, ◌≤◌, None, Some, OnOk};
-ghost use Rattle.git_model.specs.ObjectName.{IsObjectName};
-ghost use Rattle.tenant_tables.specs.IsBackedBy.{IsBackedBy};
-ghost use Rattle.tenant_tables.specs.View.{summary_of};
-ghost use Rattle.file_maps.specs.declared.entry.Entry.{Entry};
-ghost use Rattle.file_maps.specs.Trees.{entries_within, trees_within, nested_trees, tree_id, tree_name, depth_of, file_of, grouped};
-ghost use Rattle.plain_files.specs.Below.{files_below, group_of, groups_of, id_of};
-ghost use Rattle.file_maps.specs.Below.{group_trees};
+ghost use Rattle.tenant_tables.specs.{IsBackedBy.{IsBackedBy}, View.{summary_of}};
+ghost use Rattle.file_maps.specs.{declared.entry.Entry.{Entry}, Below.{group_trees}};
+ghost use Rattle.file_maps.specs.Trees.{entries_within, trees_within, nested_trees, tree_id};
+ghost use Rattle.file_maps.specs.Trees.{tree_name, depth_of, file_of, grouped};
 ghost use Rattle.file_maps.specs.Storing.{StoresTrees, HasHoldsLeftBeside};
 ghost use Rattle.file_maps.specs.Storable.{files_summary, longest_of, AreStorable};
+ghost use Rattle.plain_files.specs.Below.{files_below, group_of, groups_of, id_of};
 ghost use Rattle.plain_files.specs.Storable.{IsStorableGroup, IsKnownGroup};
 
 use crate::below::{Below, Group, depth_of, file_of, grouped};

@@ -8,15 +8,15 @@ use Rattle.pool_file_format.specs.Format.{RawObject, RawTenant, RawFile}
 use Rattle.pool_file_checks.specs.Checks.{Passes}
 use Rattle.pool_file_checks.specs.Objects.{object_checks}
 use Rattle.pool_file_checks.specs.FileRefs.{AreRising}
-use Rattle.pool_file_checks.specs.Whole.{one_tenant_checks, tenant_checks, file_checks}
+use Rattle.pool_file_checks.specs.Whole.{file_checks}
 use Rattle.pool_file_checks.specs.Repositories.{Named}
 use Rattle.pool_file_checks.specs.Saved.{named_at, saved_in}
 use Rattle.pool_file_checks.specs.Saving.{IsGood}
 use Rattle.pool_file_checks.proofs.Members.{Has, from_map}
-use Rattle.pool_file_checks.proofs.Rising.{rising_none, rising_more}
-use Rattle.pool_file_checks.proofs.Passing.{passes_rest, holds_all, each_holds}
+use Rattle.pool_file_checks.proofs.Passing.{holds_all, each_holds}
 use Rattle.pool_file_checks.proofs.OwnGood.{own_good}
 use Rattle.pool_file_checks.proofs.OwnRefs.{refs_good}
+use Rattle.pool_file_checks.proofs.Savable.{names_rise}
 use Rattle.pool_file.specs.declared.tenant.Tenant.{Tenant}
 use Rattle.pool_file.specs.Loading.{named_in, loaded_repositories, all_held, IsTenant, AreTenants}
 use Rattle.pool_file.specs.Building.{objects_at, times_in, IsChecked, IsBuilt, AreUnder, Adds}
@@ -54,17 +54,6 @@ adds_again {X} shown digest own slots p q old new xs all same none is a =
     subst (λ (l : List ℕ). Adds digest l p [] (map shown all) q new) same
     (subst (λ (l : List Tenant). Adds digest own p l (map shown all) q new) none
     (subst (λ (l : List X). Adds digest own p old (map shown l) q new) is a))
-
-names_rise : (digest : List ℕ → List ℕ) (version : ℕ) (os : List RawObject)
-    (last : Option (List ℕ)) (ts : List RawTenant)
-    → Passes (tenant_checks digest version os last ts)
-    → AreRising last (map (λ n. n.tenant) (map (named_at digest os) ts))
-names_rise digest version os last [] p = rising_none last
-names_rise digest version os last (t ∷ ts) p =
-    rising_more last t.name (map (λ n. n.tenant) (map (named_at digest os) ts)) p.1.0
-    (names_rise digest version os (Some t.name) ts
-    (passes_rest (one_tenant_checks digest version os last t)
-    (tenant_checks digest version os (Some t.name) ts) p))
 
 names_said : (pool : Cells) (ts : List Tenant)
     → map (λ n. n.tenant) (loaded_repositories pool ts) ≡ map (λ t. t.name) ts
@@ -121,17 +110,17 @@ module _ (digest : List ℕ → List ℕ) (f : RawFile) (names : AnswersNames di
         said-kept q z new kept ∙ adds.says
         ∙ ap (λ (os : List RawObject). map (named_at digest os) f.tenants) objects
 
-    pub says_file : loaded_repositories z new ≡ saved_in digest f
+    pub filled : (loaded_repositories z new ≡ saved_in digest f) × AreTenants digest z new
     unfolding saved_in
-    says_file = all_said
-
-    pub are_tenants : AreTenants digest z new
-    are_tenants = record {
-      each = each_good digest z new
-          (λ n has. good_said n (subst (λ (l : List Named). Has l n) all_said has))
-          (each-kept q z digest new kept (λ s. let a = counted s in omega arith) adds.under.each);
-      rising = subst (AreRising None)
-          (ap (map (λ (n : Named). n.tenant)) (sym all_said) ∙ names_said z new)
-          (names_rise digest f.version f.objects None f.tenants (holds_all digest f p).tenants);
-      counts = counted;
-    }
+    filled = (
+      all_said,
+      record {
+        each = each_good digest z new
+            (λ n has. good_said n (subst (λ (l : List Named). Has l n) all_said has))
+            (each-kept q z digest new kept (λ s. let a = counted s in omega arith) adds.under.each);
+        rising = subst (AreRising None)
+            (ap (map (λ (n : Named). n.tenant)) (sym all_said) ∙ names_said z new)
+            (names_rise digest f.version f.objects None f.tenants (holds_all digest f p).tenants);
+        counts = counted;
+      },
+    )

@@ -11,6 +11,7 @@ use Rattle.std.specs.FinMap.Entries.{by_order, below_all}
 use Rattle.std.proofs.lemmas.Cmp.{nat_list_cmp_total}
 use Rattle.std.proofs.lemmas.Map.Text.{is_eq-slice_cmp}
 use Rattle.std.proofs.lemmas.Slice.Eq.{bytes_eq-Decides}
+use Rattle.tenant_refs.proofs.Entries.{both, equal, first, less, second}
 use Rattle.pool_file.specs.Listing.{listed_by}
 
 abbrev pub key_cmp : List ℕ → List ℕ → Ordering
@@ -19,30 +20,8 @@ key_cmp = slice_cmp nat_cmp
 key_exact : IsAntisymmetric key_cmp
 key_exact = slice_cmp-IsAntisymmetric nat_cmp-IsAntisymmetric
 
-equal : (o : Ordering) → is_eq o ≡ true → o ≡ Equal
-equal Less e = cc
-equal Equal e = refl
-equal Greater e = cc
-
-less : (o : Ordering) → T (is_lt o) → o ≡ Less
-less Less p = refl
-less Equal p = absurd p
-less Greater p = absurd p
-
 is_less : (o : Ordering) → o ≡ Less → T (is_lt o)
 is_less o e = subst (λ (x : Ordering). T (is_lt x)) (sym e) tt
-
-both : (a b : Bool) → T a → T b → T (a && b)
-both true b p q = q
-both false b p q = p
-
-first : (a b : Bool) → T (a && b) → T a
-first true b p = tt
-first false b p = p
-
-second : (a b : Bool) → T (a && b) → T b
-second true b p = p
-second false b p = absurd p
 
 same_key : (q k : List ℕ) → q ≡ k → eq_by_cmp key_cmp q k ≡ true
 same_key q k e = is_eq-slice_cmp q k ∙ (bytes_eq-Decides q k).1 e

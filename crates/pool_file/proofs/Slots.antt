@@ -17,7 +17,8 @@ use Rattle.pool_file_checks.specs.Checks.{Passes}
 use Rattle.pool_file_checks.specs.Objects.{raw_object, object_key, object_checks}
 use Rattle.pool_file_checks.specs.FileRefs.{AreRising}
 use Rattle.pool_file_checks.proofs.Keys.{key_cmp}
-use Rattle.pool_file_checks.proofs.Rising.{sorted_rising, first, second}
+use Rattle.tenant_refs.proofs.Entries.{first, second}
+use Rattle.pool_file_checks.proofs.Rising.{sorted_rising}
 use Rattle.pool_file_checks.proofs.Passing.{objects_rise}
 use Rattle.pool_file.specs.Building.{objects_at, times_in}
 

@@ -36,6 +36,20 @@ one-here t s same = grind (arith, nat_tests)
 none-there : (t s : ℕ) → s ≢ t → one_at t s ≡ 0
 none-there t s other = grind (arith, nat_tests)
 
+-- a hold more of one slot alone
+held_more : (p q : Cells) (slot : ℕ) → holds q slot ≡ holds p slot + 1 → ((s : ℕ) → s ≢ slot → holds q s ≡ holds p s) → (s : ℕ)
+    → holds q s ≡ holds p s + one_at slot s
+held_more p q slot held others s = elim (cases_eq s slot) [
+  | inl here ↦
+      let more : holds q s ≡ holds p s + 1 = ap (holds q) here ∙ held ∙ ap (λ (t : ℕ). holds p t + 1) (sym here) in
+      let one = one-here slot s here in
+      omega arith
+  | inr other ↦
+      let same = others s other in
+      let none = none-there slot s other in
+      omega arith
+]
+
 -- ---- contents are moved
 
 -- These slots have the objects before those that are left, and the pool counts a hold for each.
@@ -115,16 +129,8 @@ module _ (p q : Cells) (slots : List ℕ) (slot : ℕ) (o : RawObject) (rest who
   counts_on s =
       let before = h.counts s in
       let push = times-push slots slot s in
-      elim (cases_eq s slot) [
-        | inl here ↦
-            let held : holds q s ≡ holds p s + 1 = ap (holds q) here ∙ puts.held ∙ ap (λ (t : ℕ). holds p t + 1) (sym here) in
-            let one = one-here slot s here in
-            omega arith
-        | inr other ↦
-            let held = puts.others s other in
-            let none = none-there slot s other in
-            omega arith
-      ]
+      let more = held_more p q slot puts.held puts.others s in
+      omega arith
 
   pub stored_on : AreStored q (slots ++ slot ∷ []) rest whole
   stored_on = record {
@@ -167,16 +173,8 @@ module _ (old p : Cells) (slots : List ℕ) (i slot : ℕ) (l : i < length slots
     counts = λ s.
         let before = h.counts s in
         let rest = first_of s in
-        elim (cases_eq s slot) [
-          | inl here ↦
-              let held : holds q s + 1 ≡ holds p s = ap (λ (t : ℕ). holds q t + 1) here ∙ r.held ∙ ap (holds p) (sym here) in
-              let one = one-here slot s here in
-              omega arith
-          | inr other ↦
-              let held = r.others s other in
-              let none = none-there slot s other in
-              omega arith
-        ];
+        let more = held_more q p slot (sym r.held) (λ t other. sym (r.others t other)) s in
+        omega arith;
     contents = λ s live. r.contents s live ∙ h.contents s (
         elim (cases_eq s slot) [
           | inl here ↦ let held = r.held in subst (IsLive p) (sym here) (omega arith)

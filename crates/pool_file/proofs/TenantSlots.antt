@@ -1,5 +1,5 @@
 -- The slots of what tenants save, and the contents in them.
-use Rattle.std.proofs.Common.{◌≡◌, ℕ, zero, suc, ◌+◌, ◌<◌, min, List, [], ◌∷◌, ◌++◌, map, take, length, get_or, Option, None, Some, refl, sym, ap, subst, ◌∙◌, arith}
+use Rattle.std.proofs.Common.{◌≡◌, ℕ, zero, suc, ◌+◌, ◌<◌, ◌≤◌, min, List, [], ◌∷◌, ◌++◌, map, take, length, get_or, Option, None, Some, refl, sym, ap, subst, ◌∙◌, arith}
 use Rattle.std.specs.Prelude.{slice_get, slice_index, All}
 use Rattle.std.specs.List.{AllByRecursion}
 use Rattle.std.specs.Option.{option_map}
@@ -64,6 +64,16 @@ stands_there (x ∷ xs) place e l = cc (e, slice_get-get_or (x ∷ xs) place x l
 pub told_there : (es : Entries) (place : ℕ) → None ≡ option_map told (slice_get es place)
     → place < length es → ⊥
 told_there es place e l = stands_there es place (none_told (slice_get es place) e) l
+
+-- Each place before the count has an entry.
+pub told_before : (es : Entries) (n place count : ℕ) → count ≡ length (take n (objects [] es)) → place < count
+    → None ≡ option_map told (slice_get es place) → ⊥
+told_before es n place count is l e = told_there es place e (before_end [] es n place count is l)
+
+-- At the end of the count all slots were met.
+pub counted_all : (es : Entries) (n place count : ℕ) → count ≡ length (take n (objects [] es)) → place ≤ count → count ≤ place
+    → first_slots es place ≡ first_slots es n
+counted_all es n place count is end stop = counted_slots [] es n place (let all : place ≡ count = omega (arith, end, stop) in all ∙ is)
 
 slot_in : Option (List ℕ × ℕ) → ℕ
 slot_in None = 0

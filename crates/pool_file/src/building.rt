@@ -3,17 +3,13 @@
 ghost use Rattle.std.specs.Prelude.{◌≡◌, [], ◌∷◌, true, All, IfOk, IfSome, OnOk};
 ghost use Rattle.content_pool.specs.Pool.{IsLive, IsVacant};
 ghost use Rattle.tenant_refs.specs.TenantName.{IsTenantName, is_tenant_name};
-ghost use Rattle.tenant_tables.specs.IsBackedBy.{IsBackedBy};
-ghost use Rattle.tenant_tables.specs.Room.{HasHoldsLeftBeside};
+ghost use Rattle.tenant_tables.specs.{IsBackedBy.{IsBackedBy}, Room.{HasHoldsLeftBeside}};
 ghost use Rattle.pool_file_format.specs.Shown.{objects_of, tenant_of, tenants_of, file_of};
-ghost use Rattle.pool_file_checks.specs.Checks.{Passes};
-ghost use Rattle.pool_file_checks.specs.Own.{names_of};
-ghost use Rattle.pool_file_checks.specs.Quick.{KnowsSums};
-ghost use Rattle.pool_file_checks.specs.Whole.{file_checks};
-ghost use Rattle.pool_file_checks.specs.Saved.{saved_in};
-ghost use Rattle.pool_file.specs.Loading.{loaded_repositories, AreTenants};
-ghost use Rattle.pool_file.specs.Building.{objects_at, IsChecked, AreUnder, Builds, Adds, SharesFront};
-ghost use Rattle.pool_file.specs.Tables.{BeginAlike};
+ghost use Rattle.pool_file_checks.specs.{Checks.{Passes}, Own.{names_of}, Quick.{KnowsSums}};
+ghost use Rattle.pool_file_checks.specs.{Whole.{file_checks}, Saved.{saved_in}};
+ghost use Rattle.pool_file.specs.{Loading.{loaded_repositories, AreTenants}, Tables.{BeginAlike}};
+ghost use Rattle.pool_file.specs.Building.{objects_at, IsChecked, AreUnder, Builds, Adds};
+ghost use Rattle.pool_file.specs.Building.{SharesFront};
 
 use crate::contents::{release_contents, store_contents};
 use crate::refs::load_refs;

@@ -3,10 +3,9 @@
 ghost use Rattle.std.specs.Prelude.{◌≡◌, ◌+◌, ◌≤◌, ℕ, IfOk, None};
 ghost use Rattle.content_pool.specs.Pool.{HasHoldsLeft, IsVacant, IsLive, Puts, holds, content};
 ghost use Rattle.pool_file_format.specs.Shown.{object_of, objects_of};
-ghost use Rattle.pool_file_checks.specs.Checks.{Passes};
-ghost use Rattle.pool_file_checks.specs.Objects.{object_checks};
-ghost use Rattle.git_model.specs.Content.{name_by};
+ghost use Rattle.pool_file_checks.specs.{Checks.{Passes}, Objects.{object_checks}};
 ghost use Rattle.pool_file_checks.specs.Own.{content_of, names_of};
+ghost use Rattle.git_model.specs.Content.{name_by};
 ghost use Rattle.pool_file.specs.Building.{objects_at, times_in};
 
 use content_pool::{Pool, Slot};

@@ -6,9 +6,7 @@
 
 ghost use Rattle.std.specs.Prelude.{◌≡◌, ◌<◌, ℕ, All, IfOk, List, Some, length, slice_get};
 ghost use Rattle.content_pool.specs.Pool.{IsLive};
-ghost use Rattle.pool_file.specs.Worth.{AllStand};
-ghost use Rattle.pool_file.specs.Listing.{IsInOrder};
-ghost use Rattle.pool_file.specs.Lent.{listed_key};
+ghost use Rattle.pool_file.specs.{Worth.{AllStand}, Listing.{IsInOrder}, Lent.{listed_key}};
 ghost use Rattle.pool_file.specs.Slots.{AreSeen, AreListed, all_slots};
 
 use crate::content::{ListedContent, lent_content};

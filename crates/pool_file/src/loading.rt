@@ -5,7 +5,8 @@ ghost use Rattle.byte_devices.specs.Device.{device_of, calls_of, counted_on, see
 ghost use Rattle.git_model.specs.Limits.{reads_limit};
 ghost use Rattle.pool_file_format.specs.Taking.{shown};
 ghost use Rattle.pool_file_checks.specs.Judging.{IsBlamed};
-ghost use Rattle.pool_file.specs.Loading.{loaded_repositories, AreTenants, LoadsAs, LoadsText, LoadsEach};
+ghost use Rattle.pool_file.specs.Loading.{loaded_repositories, AreTenants, LoadsAs, LoadsText};
+ghost use Rattle.pool_file.specs.Loading.{LoadsEach};
 
 use crate::building::build;
 use crate::tenant::Tenant;

@@ -3,8 +3,7 @@
 ghost use Rattle.std.specs.Prelude.{◌≡◌, IfOk, map};
 ghost use Rattle.pool_file_format.specs.Shown.{lent_object_of, lent_file};
 ghost use Rattle.pool_file_checks.specs.Repositories.{raw_of};
-ghost use Rattle.pool_file.specs.Worth.{AllStand, to_save};
-ghost use Rattle.pool_file.specs.Lent.{objects_lent};
+ghost use Rattle.pool_file.specs.{Worth.{AllStand, to_save}, Lent.{objects_lent}};
 
 use crate::content::ListedContent;
 use crate::listing::listed_contents;

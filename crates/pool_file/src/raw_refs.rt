@@ -2,8 +2,7 @@
 
 ghost use Rattle.std.specs.Prelude.{◌≡◌, ◌++◌, IfOk, map};
 ghost use Rattle.content_pool.specs.Pool.{Cells};
-ghost use Rattle.git_model.specs.References.{place_of};
-ghost use Rattle.git_model.specs.RefStore.{listed_refs};
+ghost use Rattle.git_model.specs.{References.{place_of}, RefStore.{listed_refs}};
 ghost use Rattle.pool_file_format.specs.Shown.{refs_of};
 ghost use Rattle.pool_file_checks.specs.Repositories.{raw_ref};
 ghost use Rattle.pool_file.specs.Worth.{named_in};

@@ -2,16 +2,11 @@
 
 ghost use Rattle.std.specs.Prelude.{◌≡◌, List, length, map, All, IfOk, OnOk};
 ghost use Rattle.content_pool.specs.Pool.{Cells};
-ghost use Rattle.git_model.specs.GoodRepository.{IsShortRefName};
-ghost use Rattle.git_model.specs.RefStore.{with_ref, with_head};
+ghost use Rattle.git_model.specs.{GoodRepository.{IsShortRefName}, RefStore.{with_ref, with_head}};
 ghost use Rattle.tenant_refs.specs.FullName.{namespaces as namespaces_of};
-ghost use Rattle.tenant_tables.specs.View.{names};
-ghost use Rattle.tenant_tables.specs.Objects.{objects};
-ghost use Rattle.pool_file_format.specs.Format.{RawObject};
-ghost use Rattle.pool_file_format.specs.Shown.{ref_of, refs_of, tenant_of};
-ghost use Rattle.pool_file_checks.specs.Checks.{Passes};
-ghost use Rattle.pool_file_checks.specs.FileRefs.{ref_checks};
-ghost use Rattle.pool_file_checks.specs.Saved.{refs_at};
+ghost use Rattle.tenant_tables.specs.{View.{names}, Objects.{objects}};
+ghost use Rattle.pool_file_format.specs.{Format.{RawObject}, Shown.{ref_of, refs_of, tenant_of}};
+ghost use Rattle.pool_file_checks.specs.{Checks.{Passes}, FileRefs.{ref_checks}, Saved.{refs_at}};
 ghost use Rattle.pool_file.specs.Refs.{IsRefIn, entry_in, with_refs};
 
 use git_names::{Memory, RefName, RefNameFault};

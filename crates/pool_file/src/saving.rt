@@ -3,8 +3,8 @@
 ghost use Rattle.std.specs.Prelude.{◌≡◌, IfOk, map};
 ghost use Rattle.byte_devices.specs.Device.{device_of, seen};
 ghost use Rattle.pool_file_checks.specs.Repositories.{file_text};
-ghost use Rattle.pool_file.specs.Worth.{tenant_seen, with_committed, committed_in, worth_saving, to_save, AllStand, TablesStand};
-ghost use Rattle.pool_file.specs.Saves.{Saves};
+ghost use Rattle.pool_file.specs.Worth.{tenant_seen, with_committed, committed_in, worth_saving};
+ghost use Rattle.pool_file.specs.{Worth.{to_save, AllStand, TablesStand}, Saves.{Saves}};
 
 use crate::plan::planned;
 use crate::tenant::Tenant;

@@ -2,7 +2,7 @@
 //!
 //! Tenants share contents, and the pool has each of them in one slot.
 
-ghost use Rattle.std.specs.Prelude.{◌≡◌, ◌<◌, ◌∷◌, [], length, IfOk, OnOk};
+ghost use Rattle.std.specs.Prelude.{◌<◌, ◌∷◌, [], length, IfOk, OnOk};
 ghost use Rattle.pool_file.specs.Slots.{KeepsSlots, Sees, AreSeen, slots_of, all_slots};
 
 use crate::tenant_view::TenantView;

@@ -1,12 +1,11 @@
 //! The summary of an object, from those that a table has of the objects before it.
 
-ghost use Rattle.std.specs.Prelude.{◌≡◌, IfOk};
-ghost use Rattle.std.specs.Option.{unwrap_or};
+ghost use Rattle.std.specs.{Prelude.{◌≡◌, IfOk}, Option.{unwrap_or}};
 ghost use Rattle.git_model.specs.TreeReading.{tree_read};
 ghost use Rattle.git_objects.specs.Parts.{entry_of, entries_of};
-ghost use Rattle.tenant_tables.specs.View.{summary_of};
-ghost use Rattle.tenant_tables.specs.Sums.{IsTreeText, IsWithin};
-ghost use Rattle.tenant_tables.specs.Trees.{below, both, entry_summary, no_files, one_file, tree_summary};
+ghost use Rattle.tenant_tables.specs.{View.{summary_of}, Sums.{IsTreeText, IsWithin}};
+ghost use Rattle.tenant_tables.specs.Trees.{below, both, entry_summary, no_files, one_file};
+ghost use Rattle.tenant_tables.specs.Trees.{tree_summary};
 ghost use Rattle.pool_file.specs.Tables.{FitsIn, summary_in};
 
 use git_names::{Memory, Name};

@@ -1,17 +1,14 @@
 //! The table of a tenant, from the numbers of its objects in the file.
 
-ghost use Rattle.std.specs.Prelude.{◌≡◌, ◌<◌, ◌≤◌, ℕ, List, [], length, All, IfOk, OnOk, Some, slice_get};
-ghost use Rattle.std.specs.Bool.{OnTrue};
-ghost use Rattle.std.specs.Option.{option_map};
+ghost use Rattle.std.specs.Prelude.{◌≡◌, ◌<◌, ◌≤◌, ℕ, List, [], length, All, IfOk, OnOk, Some};
+ghost use Rattle.std.specs.{Prelude.{slice_get}, Bool.{OnTrue}, Option.{option_map}};
 ghost use Rattle.content_pool.specs.Pool.{content};
 ghost use Rattle.git_model.specs.Content.{name_by};
-ghost use Rattle.tenant_tables.specs.Room.{HasHoldsLeftBeside};
-ghost use Rattle.tenant_tables.specs.IsBackedBy.{IsBackedBy};
-ghost use Rattle.pool_file_checks.specs.Own.{own_objects, names_of};
-ghost use Rattle.pool_file_checks.specs.Quick.{AreSums, KnowsSums};
+ghost use Rattle.tenant_tables.specs.{Room.{HasHoldsLeftBeside}, IsBackedBy.{IsBackedBy}};
+ghost use Rattle.pool_file_checks.specs.{Own.{own_objects, names_of}, Quick.{AreSums, KnowsSums}};
 ghost use Rattle.pool_file_checks.specs.Sums.{Sums};
-ghost use Rattle.pool_file.specs.Building.{objects_at, LoadsAll, MayLoad};
-ghost use Rattle.pool_file.specs.Tables.{BeginAlike, CanAdd, CanLoad, Loads, Starts, known_sum, sums_on};
+ghost use Rattle.pool_file.specs.{Building.{objects_at, LoadsAll, MayLoad}, Tables.{sums_on}};
+ghost use Rattle.pool_file.specs.Tables.{BeginAlike, CanAdd, CanLoad, Loads, Starts, known_sum};
 
 use crate::summing::summary_after;
 use content_pool::{Pool, Slot};

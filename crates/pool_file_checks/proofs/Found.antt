@@ -9,7 +9,7 @@ use Rattle.git_model.specs.Content.{Content}
 use Rattle.pool_file_checks.specs.Repositories.{Named, content_key, contents_of, listed_contents}
 use Rattle.pool_file_checks.proofs.Members.{Has, has_map, from_map}
 use Rattle.pool_file_checks.proofs.Keys.{key_cmp, keyed, AreSorted, tied, ties, found_has, has_found}
-use Rattle.pool_file_checks.proofs.Rising.{less, first, second}
+use Rattle.tenant_refs.proofs.Entries.{less, first, second}
 
 not_tied : (x q : List ℕ) (b : Bool) → key_cmp x q ≡ Less → eq_by_cmp key_cmp q x ≡ b
     → b ≡ false

@@ -1,5 +1,5 @@
 -- Refs and what they may hold.
-use Rattle.std.proofs.Common.{◌≡◌, ℕ, ◌<◌, Bool, List, [], ◌∷◌, ◌++◌, length, codes, sym, ap, subst, ◌∙◌, inl, inr}
+use Rattle.std.proofs.Common.{◌≡◌, ℕ, ◌<◌, Bool, List, [], ◌∷◌, ◌++◌, length, map, None, codes, sym, ap, subst, ◌∙◌, inl, inr}
 use Rattle.std.specs.Prelude.{◌≢◌, ◌↔◌, All, IsTrue, IfSome, IfOk, Result}
 use Rattle.git_model.specs.declared.kind.Kind.{Kind}
 use Rattle.git_model.specs.declared.kind.Kind.TheVariants as kind
@@ -9,7 +9,7 @@ use Rattle.pool_file_format.specs.declared.raw.RawRef.{RawRef as Ref}
 use Rattle.pool_file_format.specs.Shown.{refs_of}
 use Rattle.pool_file_format.specs.Format.{RawObject, RawRef}
 use Rattle.pool_file_checks.specs.Objects.{kind_byte}
-use Rattle.pool_file_checks.specs.FileRefs.{IsOwnTag, MayTarget, target_at, IsGoodRef}
+use Rattle.pool_file_checks.specs.FileRefs.{AreRising, IsOwnTag, MayTarget, target_at, IsGoodRef}
 use Rattle.pool_file_checks.proofs.CheckLemmas.{either}
 
 same_rest : (front x y : List ℕ) → front ++ x ≡ front ++ y → x ≡ y
@@ -37,6 +37,9 @@ pub same_places : (numbers others : List ℕ) (refs more : List Ref) → numbers
 same_places numbers others refs more n r placed =
     subst (λ (ns : List ℕ). All (λ r. r.place < length ns) (refs_of more)) n
     (subst (λ (rs : List Ref). All (λ r. r.place < length numbers) (refs_of rs)) r placed)
+
+pub same_rising : (refs more : List Ref) → refs ≡ more → AreRising None (map (λ r. r.name) (refs_of refs)) → AreRising None (map (λ r. r.name) (refs_of more))
+same_rising refs more r rising = subst (λ (rs : List Ref). AreRising None (map (λ r. r.name) (refs_of rs))) r rising
 
 -- The ref of a tag that was read.
 pub own_tag : (ref bytes : List ℕ) (made : Tag) (is : Bool) → CanWriteTag made → bytes ≡ tag_contents made

@@ -7,29 +7,13 @@ use Rattle.std.specs.declared.cmp.Ordering.TheVariants.{Less, Equal, Greater}
 use Rattle.std.specs.FinMap.{is_sorted}
 use Rattle.std.specs.FinMap.Entries.{below_all}
 use Rattle.std.proofs.lemmas.Cmp.{nat_list_cmp_total, nat_cmp_total, tied_itself}
+use Rattle.tenant_refs.proofs.Entries.{both, first, less, second}
 use Rattle.pool_file_checks.specs.Objects.{IsAfter}
 use Rattle.pool_file_checks.specs.FileRefs.{AreRising}
 use Rattle.pool_file_checks.proofs.Keys.{key_cmp}
 
-pub less : (o : Ordering) → T (is_lt o) → o ≡ Less
-less Less p = refl
-less Equal p = absurd p
-less Greater p = absurd p
-
 is_less : (o : Ordering) → o ≡ Less → T (is_lt o)
 is_less o e = subst (λ (x : Ordering). T (is_lt x)) (sym e) tt
-
-both : (a b : Bool) → T a → T b → T (a && b)
-both true b p q = q
-both false b p q = p
-
-pub first : (a b : Bool) → T (a && b) → T a
-first true b p = tt
-first false b p = p
-
-pub second : (a b : Bool) → T (a && b) → T b
-second true b p = p
-second false b p = absurd p
 
 pub rising_first : (last : Option (List ℕ)) (x : List ℕ) (xs : List (List ℕ))
     → AreRising last (x ∷ xs) → IsAfter last x

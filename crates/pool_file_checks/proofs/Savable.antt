@@ -20,7 +20,7 @@ use Rattle.pool_file_checks.proofs.OwnGood.{own_good}
 use Rattle.pool_file_checks.proofs.OwnRefs.{refs_good}
 use Rattle.pool_file_checks.proofs.Said.{file_again}
 
-names_rise : (digest : List ℕ → List ℕ) (version : ℕ) (os : List RawObject)
+pub names_rise : (digest : List ℕ → List ℕ) (version : ℕ) (os : List RawObject)
     (last : Option (List ℕ)) (ts : List RawTenant)
     → Passes (tenant_checks digest version os last ts)
     → AreRising last (map (λ n. n.tenant) (map (named_at digest os) ts))

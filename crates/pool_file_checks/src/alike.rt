@@ -1,9 +1,8 @@
 //! Whether a tree has the entries of an earlier one, some of them with other object names.
 
-ghost use Rattle.std.specs.Prelude.{◌≡◌, ◌++◌, ◌<◌, ◌≤◌, ℕ, List, drop, false, length, IfSome, MatchOption, slice_get};
-ghost use Rattle.std.specs.Bool.{OnTrue};
-ghost use Rattle.git_model.specs.Modes.{kind_of_mode};
-ghost use Rattle.git_model.specs.References.{is_reference};
+ghost use Rattle.std.specs.Prelude.{◌≡◌, ◌++◌, ◌<◌, ◌≤◌, ℕ, List, drop, false, length, IfSome};
+ghost use Rattle.std.specs.{Prelude.{MatchOption, slice_get}, Bool.{OnTrue}};
+ghost use Rattle.git_model.specs.{Modes.{kind_of_mode}, References.{is_reference}};
 ghost use Rattle.git_model.specs.Tree.{TreeEntry, entry_text};
 ghost use Rattle.pool_file_checks.specs.Alike.{Agree, BeginsAlike, IsAlike, MayName};
 ghost use Rattle.pool_file_checks.specs.Own.{objects_in};

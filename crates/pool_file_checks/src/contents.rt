@@ -1,8 +1,7 @@
 //! Which contents an object of each kind may have.
 
 ghost use Rattle.std.specs.Prelude.{◌≡◌, ◌≢◌, ◌↔◌, IfOk, IsTrue, MatchOption};
-ghost use Rattle.git_model.specs.declared.kind.Kind.{Kind as Kinds};
-ghost use Rattle.git_model.specs.Content.{content_from};
+ghost use Rattle.git_model.specs.{declared.kind.Kind.{Kind as Kinds}, Content.{content_from}};
 ghost use Rattle.pool_file_checks.specs.Objects.{kind_byte, IsText, IsContent};
 
 use git_objects::{Kind, Memory, read_commit, read_tag, read_tree};

@@ -1,10 +1,8 @@
 //! What a quick look keeps of the objects that passed, for tenants whose objects begin alike.
 
 ghost use Rattle.std.specs.Prelude.{◌≡◌, ◌<◌, ◌≤◌, ℕ, List, length, take, All, IfOk, IfSome, OnOk};
-ghost use Rattle.pool_file_checks.specs.Fronts.{IsFront};
-ghost use Rattle.pool_file_checks.specs.Own.{names_of, AreDistinct};
-ghost use Rattle.pool_file_format.specs.Format.{RawObject as Raw};
-ghost use Rattle.pool_file_format.specs.Shown.{objects_of};
+ghost use Rattle.pool_file_checks.specs.{Fronts.{IsFront}, Own.{names_of, AreDistinct}};
+ghost use Rattle.pool_file_format.specs.{Format.{RawObject as Raw}, Shown.{objects_of}};
 
 use crate::good::add_sums;
 use crate::last_trees::LastTrees;

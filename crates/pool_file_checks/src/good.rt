@@ -1,19 +1,15 @@
 //! A tenant's objects, each read once: whether all of them are good.
 
 ghost use Rattle.std.specs.Prelude.{◌≡◌, ◌≢◌, ◌≤◌, length, IfOk, IfSome, IsSomeAnd, All};
-ghost use Rattle.std.specs.Bool.{OnTrue};
-ghost use Rattle.std.specs.Map.{lookup};
-ghost use Rattle.std.specs.Str.{bytes_eq};
-ghost use Rattle.git_model.specs.TreeReading.{tree_read};
-ghost use Rattle.git_model.specs.References.{reference, references_of, object_at, place_of};
+ghost use Rattle.std.specs.{Bool.{OnTrue}, Map.{lookup}, Str.{bytes_eq}};
+ghost use Rattle.git_model.specs.References.{reference, references_of, object_at};
 ghost use Rattle.git_model.specs.GoodRepository.{StandsBefore};
 ghost use Rattle.git_objects.specs.Parts.{entry_of, entries_of};
 ghost use Rattle.tenant_tables.specs.Trees.{below as below_of, one_file as one_file_of};
-ghost use Rattle.pool_file_checks.specs.Connecting.{EntryStands};
-ghost use Rattle.pool_file_checks.specs.Objects.{IsText, IsContent};
-ghost use Rattle.pool_file_checks.specs.Own.{objects_in};
-ghost use Rattle.pool_file_checks.specs.Quick.{AreGoodBefore, AreGoodFirst, AreKept, HasSum, IsGoodAt, Joins};
-ghost use Rattle.pool_file_checks.specs.Sums.{Fits, FitsAfter, HasFiles, IsWithin, Sums, sum_of_entry, sum_of_tree};
+ghost use Rattle.pool_file_checks.specs.{Connecting.{EntryStands}, Objects.{IsText, IsContent}};
+ghost use Rattle.pool_file_checks.specs.{Own.{objects_in}, Quick.{Joins}, Sums.{sum_of_tree}};
+ghost use Rattle.pool_file_checks.specs.Quick.{AreGoodBefore, AreGoodFirst, AreKept, IsGoodAt};
+ghost use Rattle.pool_file_checks.specs.Sums.{FitsAfter, HasFiles, IsWithin, Sums, sum_of_entry};
 ghost use Rattle.pool_file_format.specs.Shown.{objects_of};
 
 use crate::alike::is_alike;

@@ -1,8 +1,7 @@
 //! The check that each object of a file belongs to a tenant.
 
-ghost use Rattle.std.specs.Prelude.{◌≡◌, ◌↔◌, ◌++◌, [], ◌∷◌, ℕ, List, length, true, IsTrue, All, IfOk};
-ghost use Rattle.pool_file_checks.specs.Checks.{Checked};
-ghost use Rattle.pool_file_checks.specs.Held.{AreMarked, held_checks};
+ghost use Rattle.std.specs.Prelude.{◌≡◌, ◌↔◌, ◌++◌, [], ◌∷◌, ℕ, List, true, IsTrue, All};
+ghost use Rattle.pool_file_checks.specs.{Checks.{Checked}, Held.{AreMarked, held_checks}};
 ghost use Rattle.pool_file_format.specs.Shown.{tenants_of};
 
 use pool_file_format::{Fault, RawTenant, Refusal};

@@ -3,10 +3,8 @@
 ghost use Rattle.std.specs.Prelude.{◌≡◌, IfOk};
 ghost use Rattle.byte_devices.specs.Device.{device_of, calls_of, counted_on, seen};
 ghost use Rattle.git_model.specs.Limits.{reads_limit};
-ghost use Rattle.pool_file_format.specs.Shown.{objects_of, file_of};
-ghost use Rattle.pool_file_format.specs.Taking.{shown};
-ghost use Rattle.pool_file_checks.specs.Own.{names_of};
-ghost use Rattle.pool_file_checks.specs.Quick.{KnowsSums};
+ghost use Rattle.pool_file_format.specs.{Shown.{objects_of, file_of}, Taking.{shown}};
+ghost use Rattle.pool_file_checks.specs.{Own.{names_of}, Quick.{KnowsSums}};
 ghost use Rattle.pool_file_checks.specs.Judging.{Judges, Finds, ReadsTexts, IsBlamed};
 
 use crate::known::KnownSums;

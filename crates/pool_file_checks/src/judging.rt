@@ -1,9 +1,7 @@
 //! The checks of objects, in their order.
 
-ghost use Rattle.std.specs.Prelude.{◌≡◌, ◌↔◌, [], ◌∷◌, IsTrue, IfOk, None};
-ghost use Rattle.std.specs.Option.{option_map};
-ghost use Rattle.std.specs.Ordering.{nat_cmp};
-ghost use Rattle.std.specs.Cmp.Lexicographic.{slice_cmp};
+ghost use Rattle.std.specs.{Prelude.{◌≡◌, ◌↔◌, [], ◌∷◌, IsTrue, IfOk, None}, Option.{option_map}};
+ghost use Rattle.std.specs.{Ordering.{nat_cmp}, Cmp.Lexicographic.{slice_cmp}};
 ghost use Rattle.std.specs.declared.cmp.Ordering.TheVariants.{Less};
 ghost use Rattle.pool_file_checks.specs.Checks.{Checked};
 ghost use Rattle.pool_file_checks.specs.Objects.{CanStore, IsAfter, object_key, object_checks};

@@ -1,8 +1,7 @@
 //! The summaries that a quick look knows of one tenant's objects.
 
 ghost use Rattle.std.specs.Prelude.{ℕ, List, [], OnOk};
-ghost use Rattle.pool_file_checks.specs.Own.{own_objects};
-ghost use Rattle.pool_file_checks.specs.Quick.{AreSums, KnowsSums};
+ghost use Rattle.pool_file_checks.specs.{Own.{own_objects}, Quick.{AreSums, KnowsSums}};
 ghost use Rattle.pool_file_format.specs.Format.{RawObject};
 
 use git_names::Memory;

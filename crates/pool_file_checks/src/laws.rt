@@ -3,14 +3,11 @@
 
 ghost use Rattle.std.specs.Prelude.{◌≡◌, ℕ, List, None, ◌<◌, [], All, Ok};
 ghost use Rattle.pool_file_format.specs.Format.{RawObject, RawFile, FitsFile};
-ghost use Rattle.pool_file_checks.specs.Checks.{Passes, Refuses};
-ghost use Rattle.pool_file_checks.specs.Objects.{object_checks};
-ghost use Rattle.pool_file_checks.specs.Whole.{file_checks};
-ghost use Rattle.git_names.specs.Naming.{AnswersNames};
 ghost use Rattle.pool_file_format.specs.Lengths.{sealed_at};
-ghost use Rattle.pool_file_checks.specs.Repositories.{Named, raw_of};
-ghost use Rattle.pool_file_checks.specs.Saved.{saved_in};
-ghost use Rattle.pool_file_checks.specs.Saving.{CanSave, IsTextOf};
+ghost use Rattle.pool_file_checks.specs.{Checks.{Passes, Refuses}, Objects.{object_checks}};
+ghost use Rattle.pool_file_checks.specs.{Whole.{file_checks}, Repositories.{Named, raw_of}};
+ghost use Rattle.pool_file_checks.specs.{Saved.{saved_in}, Saving.{CanSave, IsTextOf}};
+ghost use Rattle.git_names.specs.Naming.{AnswersNames};
 
 /// At most one refusal is the first of the checks of objects. If all hold, no refusal is.
 pub fn one_refusal_is_first()

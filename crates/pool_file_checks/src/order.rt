@@ -1,7 +1,6 @@
 //! The order of texts.
 
-ghost use Rattle.std.specs.Prelude.{◌↔◌, IsTrue};
-ghost use Rattle.std.specs.Option.{option_map};
+ghost use Rattle.std.specs.{Prelude.{◌↔◌, IsTrue}, Option.{option_map}};
 ghost use Rattle.pool_file_checks.specs.Objects.{IsAfter};
 
 use std::cmp::Ordering;

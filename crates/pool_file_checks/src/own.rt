@@ -1,9 +1,7 @@
 //! The objects of one tenant, under their names.
 
-ghost use Rattle.std.specs.Prelude.{◌≡◌, ◌<◌, [], length, All, slice_index_or};
-ghost use Rattle.std.specs.Bool.{OnTrue};
-ghost use Rattle.pool_file_checks.specs.Own.{rows_of};
-ghost use Rattle.pool_file_checks.specs.Indexing.{Adds, Indexes, IsIndexed};
+ghost use Rattle.std.specs.{Prelude.{◌≡◌, ◌<◌, [], length, All, slice_index_or}, Bool.{OnTrue}};
+ghost use Rattle.pool_file_checks.specs.{Own.{rows_of}, Indexing.{Adds, Indexes, IsIndexed}};
 ghost use Rattle.pool_file_format.specs.Taking.{shown};
 
 use git_names::Name;

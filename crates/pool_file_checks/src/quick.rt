@@ -3,18 +3,14 @@
 //! `Ok` says that all checks of a file hold. A refusal only says that they do not, or that the look
 //! does not tell: which refusal is the first is left to the checks in their order.
 
-ghost use Rattle.std.specs.Prelude.{◌≡◌, ◌↔◌, ℕ, List, map, All, IsTrue, None, IfOk, OnOk};
-ghost use Rattle.std.specs.Bool.{OnTrue};
+ghost use Rattle.std.specs.{Prelude.{◌≡◌, ℕ, List, map, All, None, IfOk, OnOk}, Bool.{OnTrue}};
 ghost use Rattle.std.specs.Option.{option_map};
-ghost use Rattle.pool_file_checks.specs.Checks.{Passes};
-ghost use Rattle.pool_file_checks.specs.FileRefs.{AreRising};
-ghost use Rattle.pool_file_checks.specs.Fronts.{IsFront};
-ghost use Rattle.pool_file_checks.specs.Held.{numbers_of};
-ghost use Rattle.pool_file_checks.specs.Objects.{IsContent, object_key};
-ghost use Rattle.pool_file_checks.specs.Own.{content_at, names_of};
-ghost use Rattle.pool_file_checks.specs.Quick.{HasKind, KnowsSums};
+ghost use Rattle.pool_file_checks.specs.{Checks.{Passes}, FileRefs.{AreRising}, Fronts.{IsFront}};
+ghost use Rattle.pool_file_checks.specs.{Held.{numbers_of}, Objects.{IsContent, object_key}};
+ghost use Rattle.pool_file_checks.specs.{Own.{content_at, names_of}, Quick.{HasKind, KnowsSums}};
 ghost use Rattle.pool_file_checks.specs.Whole.{one_tenant_checks, tenant_checks, file_checks};
-ghost use Rattle.pool_file_format.specs.Shown.{object_of, objects_of, tenant_of, tenants_of, file_of};
+ghost use Rattle.pool_file_format.specs.Shown.{object_of, objects_of, tenant_of, tenants_of};
+ghost use Rattle.pool_file_format.specs.Shown.{file_of};
 
 use crate::contents::kind_from;
 use crate::fronts::{Front, take_front};

@@ -1,12 +1,10 @@
 //! The check of what a tenant's objects refer to.
 
-ghost use Rattle.std.specs.Prelude.{◌≡◌, ◌↔◌, [], ◌∷◌, IsTrue, IfOk, All};
+ghost use Rattle.std.specs.Prelude.{◌↔◌, [], ◌∷◌, IsTrue, IfOk, All};
 ghost use Rattle.git_model.specs.References.{references_of, references_in, object_at};
 ghost use Rattle.git_model.specs.GoodRepository.{StandsBefore};
-ghost use Rattle.pool_file_checks.specs.Checks.{Checked};
-ghost use Rattle.pool_file_checks.specs.Connecting.{AreConnected};
-ghost use Rattle.pool_file_checks.specs.Objects.{IsText, CanStore};
-ghost use Rattle.pool_file_checks.specs.Own.{objects_in};
+ghost use Rattle.pool_file_checks.specs.{Checks.{Checked}, Connecting.{AreConnected}};
+ghost use Rattle.pool_file_checks.specs.{Objects.{IsText, CanStore}, Own.{objects_in}};
 ghost use Rattle.pool_file_format.specs.Shown.{objects_of};
 ghost use Rattle.pool_file_format.specs.declared.refusal.Refusal.TheVariants as refusal;
 
@@ -17,60 +15,6 @@ use git_objects::{Kind, Memory, read_commit, read_tag, read_tree};
 use indexmap::IndexMap;
 use pool_file_format::{Fault, RawObject, Refusal};
 use std::alloc::Global;
-
-fn tree_is_connected(
-    alloc: Global,
-    objects: &[RawObject],
-    index: &IndexMap<Name, usize>,
-    place: usize,
-    bytes: &[u8],
-) -> Result<bool, Memory>
-    ensures { IsText Kind.Tree bytes.now → IfOk result (λ b. IsTrue b
-        ↔ All (StandsBefore (objects_in (objects_of objects.now) index.now.entries) place)
-        (references_of Kind.Tree bytes.now)) }
-{
-    match read_tree(alloc, bytes) {
-        Ok(Some(entries)) => Ok(entries_stand(objects, index, place, &entries)),
-        Ok(None) => Ok(false),
-        Err(refused) => Err(refused),
-    }
-}
-
-fn commit_is_connected(
-    alloc: Global,
-    objects: &[RawObject],
-    index: &IndexMap<Name, usize>,
-    place: usize,
-    bytes: &[u8],
-) -> Result<bool, Memory>
-    ensures { IsText Kind.Commit bytes.now → IfOk result (λ b. IsTrue b
-        ↔ All (StandsBefore (objects_in (objects_of objects.now) index.now.entries) place)
-        (references_of Kind.Commit bytes.now)) }
-{
-    match read_commit(alloc, bytes) {
-        Ok(Some(parts)) => Ok(commit_stands(objects, index, place, &parts)),
-        Ok(None) => Ok(false),
-        Err(refused) => Err(refused),
-    }
-}
-
-fn tag_is_connected(
-    alloc: Global,
-    objects: &[RawObject],
-    index: &IndexMap<Name, usize>,
-    place: usize,
-    bytes: &[u8],
-) -> Result<bool, Memory>
-    ensures { IsText Kind.Tag bytes.now → IfOk result (λ b. IsTrue b
-        ↔ All (StandsBefore (objects_in (objects_of objects.now) index.now.entries) place)
-        (references_of Kind.Tag bytes.now)) }
-{
-    match read_tag(alloc, bytes) {
-        Ok(Some(parts)) => Ok(stands_before(objects, index, place, &parts.target, parts.kind)),
-        Ok(None) => Ok(false),
-        Err(refused) => Err(refused),
-    }
-}
 
 // Whether the objects to which a text of a kind refers stand before a place.
 fn is_connected(
@@ -87,9 +31,21 @@ fn is_connected(
 {
     match kind {
         Kind::Blob => Ok(true),
-        Kind::Tree => tree_is_connected(alloc, objects, index, place, bytes),
-        Kind::Commit => commit_is_connected(alloc, objects, index, place, bytes),
-        Kind::Tag => tag_is_connected(alloc, objects, index, place, bytes),
+        Kind::Tree => match read_tree(alloc, bytes) {
+            Ok(Some(entries)) => Ok(entries_stand(objects, index, place, &entries)),
+            Ok(None) => Ok(false),
+            Err(refused) => Err(refused),
+        },
+        Kind::Commit => match read_commit(alloc, bytes) {
+            Ok(Some(parts)) => Ok(commit_stands(objects, index, place, &parts)),
+            Ok(None) => Ok(false),
+            Err(refused) => Err(refused),
+        },
+        Kind::Tag => match read_tag(alloc, bytes) {
+            Ok(Some(parts)) => Ok(stands_before(objects, index, place, &parts.target, parts.kind)),
+            Ok(None) => Ok(false),
+            Err(refused) => Err(refused),
+        },
     }
 }
 

@@ -1,13 +1,12 @@
 //! Whether the objects to which an object refers stand before it, with the right kind.
 
 ghost use Rattle.std.specs.Prelude.{◌≡◌, ◌↔◌, IfSome, IsSome, IsTrue, All};
-ghost use Rattle.git_model.specs.declared.kind.Kind.TheVariants as kind;
 ghost use Rattle.git_model.specs.References.{reference, commit_references, place_of};
 ghost use Rattle.git_model.specs.GoodRepository.{StandsBefore};
 ghost use Rattle.git_objects.specs.Parts.{entry_of, entries_of, commit_of};
-ghost use Rattle.pool_file_checks.specs.Connecting.{EntryStands};
-ghost use Rattle.pool_file_checks.specs.Own.{content_at, objects_in};
+ghost use Rattle.pool_file_checks.specs.{Connecting.{EntryStands}, Own.{content_at, objects_in}};
 ghost use Rattle.pool_file_format.specs.Shown.{objects_of};
+ghost use Rattle.git_model.specs.declared.kind.Kind.TheVariants as kind;
 
 use crate::naming::content_at;
 use git_names::Name;

@@ -4,9 +4,9 @@ ghost use Rattle.std.specs.Prelude.{◌≡◌, ◌≢◌, ◌↔◌, [], ◌∷�
 ghost use Rattle.git_model.specs.TreeReading.{tree_read};
 ghost use Rattle.git_objects.specs.Parts.{entry_of, entries_of};
 ghost use Rattle.tenant_tables.specs.Trees.{no_files, below, one_file, both};
-ghost use Rattle.pool_file_checks.specs.Checks.{Checked};
-ghost use Rattle.pool_file_checks.specs.Own.{objects_in};
-ghost use Rattle.pool_file_checks.specs.Sums.{AddsSum, EntryFits, Fits, FitsAfter, IsWithin, SumWhere, TreesFit, sum_of_entry, sum_of_tree};
+ghost use Rattle.pool_file_checks.specs.{Checks.{Checked}, Own.{objects_in}};
+ghost use Rattle.pool_file_checks.specs.Sums.{AddsSum, EntryFits, Fits, FitsAfter, IsWithin};
+ghost use Rattle.pool_file_checks.specs.Sums.{SumWhere, TreesFit, sum_of_entry, sum_of_tree};
 ghost use Rattle.pool_file_format.specs.Shown.{objects_of};
 
 use crate::naming::content_at;

@@ -2,8 +2,7 @@
 
 ghost use Rattle.std.specs.Prelude.{◌≡◌, ◌↔◌, ◌++◌, codes, IfOk, IfSome, IsTrue};
 ghost use Rattle.std.specs.Option.{option_map};
-ghost use Rattle.git_model.specs.Content.{content_from};
-ghost use Rattle.git_model.specs.GoodRepository.{IsShortRefName};
+ghost use Rattle.git_model.specs.{Content.{content_from}, GoodRepository.{IsShortRefName}};
 ghost use Rattle.pool_file_checks.specs.FileRefs.{IsOwnTag, MayTarget, target_at};
 ghost use Rattle.pool_file_checks.specs.Objects.{raw_object};
 ghost use Rattle.pool_file_format.specs.Shown.{object_of, objects_of};

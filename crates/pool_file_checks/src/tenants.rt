@@ -1,10 +1,9 @@
 //! The checks of a tenant's name and numbers, in their order.
 
-ghost use Rattle.std.specs.Prelude.{◌≡◌, ◌≢◌, ◌↔◌, ◌<◌, IsTrue, All};
-ghost use Rattle.std.specs.Option.{option_map};
+ghost use Rattle.std.specs.{Prelude.{◌≡◌, ◌≢◌, ◌↔◌, ◌<◌, IsTrue, All}, Option.{option_map}};
 ghost use Rattle.git_model.specs.RefStore.{first_head};
-ghost use Rattle.pool_file_checks.specs.Checks.{Checked};
-ghost use Rattle.pool_file_checks.specs.Tenants.{IsNameIn, IsWorthSaving, name_checks, number_checks};
+ghost use Rattle.pool_file_checks.specs.{Checks.{Checked}, Tenants.{number_checks}};
+ghost use Rattle.pool_file_checks.specs.Tenants.{IsNameIn, IsWorthSaving, name_checks};
 ghost use Rattle.pool_file_format.specs.Shown.{tenant_of};
 
 use crate::order::is_after;

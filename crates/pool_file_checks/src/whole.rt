@@ -2,11 +2,9 @@
 
 ghost use Rattle.std.specs.Prelude.{◌≡◌, ◌<◌, ℕ, List, length, All, IfOk, None};
 ghost use Rattle.std.specs.Option.{option_map};
-ghost use Rattle.pool_file_checks.specs.Checks.{Passes, Checked};
-ghost use Rattle.pool_file_checks.specs.Objects.{CanStore};
-ghost use Rattle.pool_file_checks.specs.Own.{names_of};
-ghost use Rattle.pool_file_checks.specs.Quick.{KnowsSums};
-ghost use Rattle.pool_file_checks.specs.Whole.{own_checks, one_tenant_checks, tenant_checks, file_checks};
+ghost use Rattle.pool_file_checks.specs.{Checks.{Passes, Checked}, Objects.{CanStore}};
+ghost use Rattle.pool_file_checks.specs.{Own.{names_of}, Quick.{KnowsSums}, Whole.{file_checks}};
+ghost use Rattle.pool_file_checks.specs.Whole.{own_checks, one_tenant_checks, tenant_checks};
 ghost use Rattle.pool_file_format.specs.Shown.{objects_of, tenant_of, tenants_of, file_of};
 ghost use Rattle.pool_file_format.specs.Taking.{shown};
 
@@ -23,24 +21,9 @@ use git_names::Name;
 use pool_file_format::{Fault, RawFile, RawObject, RawTenant};
 use std::alloc::Global;
 
-// Judges the names of a tenant's objects, what they refer to, and the sizes of its trees.
+// Judges the names of a tenant's objects, what they refer to, and the sizes of its trees. The objects
+// of the numbers in `judged` have passed, and are not judged again.
 fn check_own(
-    alloc: Global,
-    objects: &[RawObject],
-    names: &[Name],
-    numbers: &[u64],
-) -> Result<(), Fault>
-    ensures { (digest : List ℕ → List ℕ) → names.now ≡ names_of digest (objects_of objects.now)
-        → All CanStore (objects_of objects.now) → All (λ n. n < length objects.now) numbers.now
-        → Checked (own_checks digest (objects_of objects.now) numbers.now) result }
-{
-    let index = index_objects(alloc, names, numbers)?;
-    check_references(alloc, objects, &index)?;
-    check_sums(alloc, objects, &index)
-}
-
-// The same, after the objects of the numbers in `judged` have passed: those are not judged again.
-fn check_unless_judged(
     alloc: Global,
     objects: &[RawObject],
     names: &[Name],
@@ -55,7 +38,9 @@ fn check_unless_judged(
     if are_same(judged, numbers) {
         return Ok(());
     }
-    check_own(alloc, objects, names, numbers)
+    let index = index_objects(alloc, names, numbers)?;
+    check_references(alloc, objects, &index)?;
+    check_sums(alloc, objects, &index)
 }
 
 fn check_tenant(
@@ -75,7 +60,7 @@ fn check_tenant(
 {
     check_name(version, last, tenant)?;
     check_numbers(objects.len() as u64, tenant)?;
-    check_unless_judged(alloc, objects, names, judged, &tenant.numbers)?;
+    check_own(alloc, objects, names, judged, &tenant.numbers)?;
     check_refs(alloc, objects, tenant)
 }
 

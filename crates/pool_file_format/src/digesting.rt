@@ -1,8 +1,7 @@
 //! Digests that take their message piece by piece.
 
 ghost use Rattle.std.specs.Prelude.{◌≡◌, ◌+◌, ◌%◌, ℕ, List, [], sum};
-ghost use Rattle.pool_file_format.specs.Sinks.{Goes};
-ghost use Rattle.pool_file_format.specs.AddingUp.{fed_adds_up};
+ghost use Rattle.pool_file_format.specs.{Sinks.{Goes}, AddingUp.{fed_adds_up}};
 
 use crate::sink::Sink;
 use byte_devices::DeviceFault;

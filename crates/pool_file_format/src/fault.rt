@@ -2,6 +2,7 @@
 
 ghost use Rattle.std.specs.Prelude.{◌≡◌};
 ghost use Rattle.pool_file_format.specs.Faults.{code_of};
+ghost use Rattle.pool_file_format.specs.declared.fault.Fault.TheVariants as fault;
 
 use crate::refusal::Refusal;
 use byte_devices::{DeviceFault, FillFault};
@@ -37,18 +38,14 @@ impl Fault {
 }
 
 impl From<DeviceFault> for Fault {
-    ghost use Rattle.pool_file_format.specs.declared.fault.Fault.TheVariants as fault;
+    ghost from_gives = { λ _ refused. refused ≡ fault.Device };
 
-    ghost from_gives = { λ _ failed. failed ≡ fault.Device };
-
-    fn from(_failed: DeviceFault) -> Fault {
+    fn from(_refused: DeviceFault) -> Fault {
         Fault::Device
     }
 }
 
 impl From<AllocError> for Fault {
-    ghost use Rattle.pool_file_format.specs.declared.fault.Fault.TheVariants as fault;
-
     ghost from_gives = { λ _ refused. refused ≡ fault.Memory };
 
     fn from(_refused: AllocError) -> Fault {
@@ -57,8 +54,6 @@ impl From<AllocError> for Fault {
 }
 
 impl<T: Drop> From<AllocFailed<T>> for Fault {
-    ghost use Rattle.pool_file_format.specs.declared.fault.Fault.TheVariants as fault;
-
     ghost from_gives = { λ _ refused. refused ≡ fault.Memory };
 
     fn from(_refused: AllocFailed<T>) -> Fault {
@@ -67,8 +62,6 @@ impl<T: Drop> From<AllocFailed<T>> for Fault {
 }
 
 impl From<Memory> for Fault {
-    ghost use Rattle.pool_file_format.specs.declared.fault.Fault.TheVariants as fault;
-
     ghost from_gives = { λ _ refused. refused ≡ fault.Memory };
 
     fn from(_refused: Memory) -> Fault {

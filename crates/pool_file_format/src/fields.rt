@@ -2,9 +2,10 @@
 
 ghost use Rattle.std.specs.Int.{w16, w64};
 ghost use Rattle.byte_devices.specs.Device.{device_of, seen};
-ghost use Rattle.pool_file_format.specs.Lengths.{byte_at, number_at, sized_at, many_at, counted_at, object_at, ref_at, head_at, tenant_at};
-ghost use Rattle.pool_file_format.specs.Shown.{object_of, objects_of, ref_of, refs_of, tenant_of, tenants_of};
-ghost use Rattle.pool_file_format.specs.Taking.{shown, ReadsValue};
+ghost use Rattle.pool_file_format.specs.Lengths.{byte_at, number_at, sized_at, many_at, counted_at};
+ghost use Rattle.pool_file_format.specs.Lengths.{object_at, ref_at, head_at, tenant_at};
+ghost use Rattle.pool_file_format.specs.Shown.{object_of, objects_of, ref_of, refs_of, tenant_of};
+ghost use Rattle.pool_file_format.specs.{Shown.{tenants_of}, Taking.{shown, ReadsValue}};
 
 use crate::fault::Fault;
 use crate::filling::{fill, read_bytes, read_u16, read_u64};

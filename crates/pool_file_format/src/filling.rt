@@ -1,7 +1,6 @@
 //! Reading a given number of bytes, and numbers.
 
-ghost use Rattle.std.specs.Prelude.{◌≡◌, ◌≤◌, ◌++◌, length, replicate, OnOk};
-ghost use Rattle.std.specs.Int.{w16, w32, w64};
+ghost use Rattle.std.specs.{Prelude.{◌≡◌, ◌≤◌, ◌++◌, length, replicate, OnOk}, Int.{w16, w32, w64}};
 ghost use Rattle.byte_devices.specs.Device.{device_of, seen};
 ghost use Rattle.pool_file_format.specs.Lengths.{bytes_at, number_at};
 ghost use Rattle.pool_file_format.specs.Taking.{shown, ReadsValue, Adds};

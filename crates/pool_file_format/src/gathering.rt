@@ -1,9 +1,9 @@
 //! Sinks in front of another sink: one also feeds its pieces to a digest, one gathers them in
 //! blocks.
 
-ghost use Rattle.std.specs.Prelude.{◌≡◌, [], ◌++◌, OnOk};
-ghost use Rattle.std.specs.Bool.{OnTrue, OnFalse};
-ghost use Rattle.pool_file_format.specs.Sinks.{Gives, TookBoth, FailedBoth, TookBlocks, FailedBlocks};
+ghost use Rattle.std.specs.{Prelude.{◌≡◌, [], ◌++◌, OnOk}, Bool.{OnTrue, OnFalse}};
+ghost use Rattle.pool_file_format.specs.Sinks.{Gives, TookBoth, FailedBoth, TookBlocks};
+ghost use Rattle.pool_file_format.specs.Sinks.{FailedBlocks};
 ghost use Rattle.pool_file_format.specs.AddingUp.{digested_adds_up, gathered_adds_up};
 
 use crate::digesting::DigestState;

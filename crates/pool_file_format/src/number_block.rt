@@ -1,7 +1,6 @@
 //! The texts of some numbers, on the stack.
 
-ghost use Rattle.std.specs.Prelude.{◌≡◌, ◌≤◌, ◌+◌, ◌++◌, [], length};
-ghost use Rattle.std.specs.List.{flat_map};
+ghost use Rattle.std.specs.{Prelude.{◌≡◌, ◌≤◌, ◌+◌, ◌++◌, [], length}, List.{flat_map}};
 ghost use Rattle.pool_file_format.specs.Format.{number_text};
 
 use std::marker::Model;

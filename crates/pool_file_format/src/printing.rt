@@ -1,11 +1,9 @@
 //! Writing the bytes of a file to a sink, piece by piece.
 
-ghost use Rattle.std.specs.Prelude.{◌++◌, map};
-ghost use Rattle.std.specs.Int.{w16, w32, w64, to_be_bytes};
-ghost use Rattle.std.specs.List.{flat_map};
-ghost use Rattle.pool_file_format.specs.Format.{sized, counted, number_text, object_text, ref_text, head_text, tenant_text, body_text};
+ghost use Rattle.std.specs.{Prelude.{◌++◌, map}, Int.{w16, w32, w64, to_be_bytes}, List.{flat_map}};
+ghost use Rattle.pool_file_format.specs.Format.{sized, counted, number_text, object_text, ref_text};
+ghost use Rattle.pool_file_format.specs.{Format.{head_text, tenant_text, body_text}, Sinks.{Gives}};
 ghost use Rattle.pool_file_format.specs.Shown.{ref_of, refs_of, tenant_of, tenants_of, listed_file};
-ghost use Rattle.pool_file_format.specs.Sinks.{Gives};
 
 use crate::listed::{Listed, Printed};
 use crate::number_block::{NUMBERS, NumberBlock};

@@ -3,8 +3,8 @@
 ghost use Rattle.std.specs.Prelude.{◌≡◌, ◌==◌, ◌||◌};
 ghost use Rattle.byte_devices.specs.Device.{device_of, calls_of, counted_on, seen};
 ghost use Rattle.git_model.specs.Limits.{reads_limit};
-ghost use Rattle.pool_file_format.specs.Lengths.{bytes_at, expected_at, front_at, version_at, body_at, end_at, by_lengths};
-ghost use Rattle.pool_file_format.specs.Shown.{file_of};
+ghost use Rattle.pool_file_format.specs.Lengths.{bytes_at, expected_at, front_at, version_at};
+ghost use Rattle.pool_file_format.specs.{Lengths.{body_at, end_at, by_lengths}, Shown.{file_of}};
 ghost use Rattle.pool_file_format.specs.Taking.{shown, ReadsBy, ReadsValue, ReadsAll};
 
 use crate::fault::Fault;

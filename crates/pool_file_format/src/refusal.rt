@@ -10,31 +10,31 @@ use thiserror::Error;
 pub enum Refusal {
     /// The first bytes are not those of a pool file: 60.
     #[error("fault 60")]
-    NoPoolFile,
+    NoPoolFile = 60,
     /// The version is not 1 or 2: 61.
     #[error("fault 61")]
-    UnknownVersion,
+    UnknownVersion = 61,
     /// The bytes end before the file does: 62.
     #[error("fault 62")]
-    CutOff,
+    CutOff = 62,
     /// The digest is not that of the bytes before it: 63.
     #[error("fault 63")]
-    WrongDigest,
+    WrongDigest = 63,
     /// The bytes are not in canonical form, the only text of what they say: 64.
     #[error("fault 64")]
-    NotCanonical,
+    NotCanonical = 64,
     /// An object is malformed or past a limit: 65.
     #[error("fault 65")]
-    BadObject,
+    BadObject = 65,
     /// What an object or a ref refers to is missing, or comes later, or has another kind: 66.
     #[error("fault 66")]
-    MissingReference,
+    MissingReference = 66,
     /// A ref or HEAD has a bad name, or a ref has a target of the wrong kind: 67.
     #[error("fault 67")]
-    BadRef,
+    BadRef = 67,
     /// The input goes on after the digest: 69.
     #[error("fault 69")]
-    TrailingBytes,
+    TrailingBytes = 69,
 }
 
 impl Refusal {
@@ -42,16 +42,6 @@ impl Refusal {
     pub fn code(self) -> u16
         ensures { result ≡ number_of self }
     {
-        match self {
-            Refusal::NoPoolFile => 60,
-            Refusal::UnknownVersion => 61,
-            Refusal::CutOff => 62,
-            Refusal::WrongDigest => 63,
-            Refusal::NotCanonical => 64,
-            Refusal::BadObject => 65,
-            Refusal::MissingReference => 66,
-            Refusal::BadRef => 67,
-            Refusal::TrailingBytes => 69,
-        }
+        self as u16
     }
 }

@@ -1,13 +1,11 @@
 //! Reading and writing whole files with their digests.
 
-ghost use Rattle.std.specs.Prelude.{◌≡◌, [], OnOk};
-ghost use Rattle.std.specs.Str.{bytes_eq};
+ghost use Rattle.std.specs.{Prelude.{◌≡◌, [], OnOk}, Str.{bytes_eq}};
 ghost use Rattle.byte_devices.specs.Device.{device_of, calls_of, counted_on, seen};
 ghost use Rattle.git_model.specs.Limits.{reads_limit};
-ghost use Rattle.pool_file_format.specs.Format.{body_text, raw_text};
-ghost use Rattle.pool_file_format.specs.Lengths.{sealed_at};
-ghost use Rattle.pool_file_format.specs.Shown.{file_of, lent_file, listed_file, listed_text, object_of};
-ghost use Rattle.pool_file_format.specs.Sinks.{Gives, Goes, Writes};
+ghost use Rattle.pool_file_format.specs.{Format.{body_text, raw_text}, Lengths.{sealed_at}};
+ghost use Rattle.pool_file_format.specs.Shown.{file_of, lent_file, listed_file, listed_text};
+ghost use Rattle.pool_file_format.specs.{Shown.{object_of}, Sinks.{Gives, Goes, Writes}};
 ghost use Rattle.pool_file_format.specs.Taking.{shown, ReadsAll};
 
 use crate::digesting::{DigestState, Fed, StreamingDigest};

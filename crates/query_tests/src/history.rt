@@ -111,8 +111,7 @@ pub struct History<N: Naming> {
 
 impl<N: Naming> Model for History<N> {
     ghost use Rattle.std.specs.Prelude.{ℕ};
-    ghost use Rattle.tenant_tables.specs.IsBackedBy.{IsBackedBy};
-    ghost use Rattle.tenant_tables.specs.Room.{HasHoldsLeftBeside};
+    ghost use Rattle.tenant_tables.specs.{IsBackedBy.{IsBackedBy}, Room.{HasHoldsLeftBeside}};
 
     ghost Value = { ℕ };
 

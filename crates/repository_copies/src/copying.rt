@@ -1,18 +1,15 @@
 //! The places of the objects of a copy: git-fast-export(1), git-fast-import(1).
 
 ghost use Rattle.std.specs.Prelude.{◌≡◌, ◌<◌, [], Some, IfOk, IfSome, IsNone, OnOk, length};
-ghost use Rattle.git_model.specs.declared.kind.Kind.TheVariants as kind;
 ghost use Rattle.git_model.specs.Commit.{Commit, CanWriteCommit, commit_contents};
-ghost use Rattle.git_model.specs.Content.{content_from};
-ghost use Rattle.git_model.specs.GoodRepository.{AreObjects};
-ghost use Rattle.git_model.specs.References.{kind_named, object_at, place_of};
-ghost use Rattle.git_model.specs.RefStore.{RefStore};
+ghost use Rattle.git_model.specs.{Content.{content_from}, GoodRepository.{AreObjects}};
+ghost use Rattle.git_model.specs.{References.{object_at, place_of}, RefStore.{RefStore}};
 ghost use Rattle.git_model.specs.Repository.{Repository};
 ghost use Rattle.export_text.specs.Marking.{reached_flags};
-ghost use Rattle.export_laws.specs.Copies.{CanBeCopied};
-ghost use Rattle.export_laws.specs.Order.{AreWhole, names_by, names_with, trees_of};
+ghost use Rattle.export_laws.specs.{Copies.{CanBeCopied}, Order.{AreWhole, names_by, names_with}};
 ghost use Rattle.repository_copies.specs.Copied.{AreCopied};
 ghost use Rattle.repository_copies.specs.Found.{Adds, AreFound, HasCopied, found_objects};
+ghost use Rattle.git_model.specs.declared.kind.Kind.TheVariants as kind;
 
 use crate::found::Found;
 use crate::limits::can_be_copied;
@@ -35,24 +32,6 @@ fn place_of_tree<N: Naming>(objects: &Objects<'_, N>, contents: &[u8]) -> Option
     }
 }
 
-// Adds the trees of the commit with these contents.
-fn add_trees_of<N: Naming>(
-    alloc: Global,
-    objects: &Objects<'_, N>,
-    contents: &[u8],
-    found: &mut Found,
-) -> Result<(), Memory>
-    ensures { AreObjects N.digest_of objects.now → (c : Commit) → CanWriteCommit c
-        → contents.now ≡ commit_contents c → kind_named c.tree objects.now ≡ Some kind.Tree
-        → AreFound objects.now found.old → AreWhole objects.now (found_objects objects.now found.old)
-        → OnOk result (Adds objects.now (trees_of objects.now c.tree) found.old found.new) }
-{
-    match place_of_tree(objects, contents) {
-        Some(tree) => add_trees(alloc, objects, tree, found),
-        None => Ok(()),
-    }
-}
-
 // Adds the commit at a place, after its trees.
 fn add_commit<N: Naming>(
     alloc: Global,
@@ -68,7 +47,10 @@ fn add_commit<N: Naming>(
         (names_by objects.now (object_at place objects.now).id kind.Commit contents.now)
         found.old found.new) }
 {
-    add_trees_of(alloc, objects, contents, found)?;
+    let Some(tree) = place_of_tree(objects, contents) else {
+        return Ok(());
+    };
+    add_trees(alloc, objects, tree, found)?;
     found.add(place)
 }
 
@@ -177,10 +159,10 @@ fn places_if_can<N: Naming>(
 /// what the refs reach, in the order of the repository, but each commit after its trees. Nothing is
 /// written.
 ///
-/// `None` if the repository cannot be copied (`CanBeCopied` of export_laws): a line or a data of
-/// its export is too long, its refs are too many for an export, or they reach more than 65,536
-/// tags. `Memory` (90) if there is no memory for a flag of each object, for the places, or to read
-/// an object. The answer is right if the objects are good (`AreObjects` of git_model).
+/// `None` if the repository cannot be copied (`CanBeCopied` of export_laws): an object does not fit
+/// into a stream, its refs are too many for an export, or they reach more than 65,536 tags.
+/// `Memory` (90) if there is no memory for a flag of each object, for the places, or to read an
+/// object. The answer is right if the objects are good (`AreObjects` of git_model).
 pub fn copied_places<N: Naming>(
     alloc: Global,
     objects: &Objects<'_, N>,

@@ -2,12 +2,9 @@
 
 ghost use Rattle.std.specs.Prelude.{◌↔◌, ◌≤◌, ◌<◌, List, All, IfOk, IfSome, IsTrue, length};
 ghost use Rattle.std.specs.Option.{option_copied};
-ghost use Rattle.git_model.specs.Commit.{Commit};
-ghost use Rattle.git_model.specs.CommitReading.{commit_read};
+ghost use Rattle.git_model.specs.{Commit.{Commit}, CommitReading.{commit_read}, Tag.{Tag}};
 ghost use Rattle.git_model.specs.GoodRepository.{AreObjects, IsCommit, IsTag, IsValid};
-ghost use Rattle.git_model.specs.References.{object_at};
-ghost use Rattle.git_model.specs.Repository.{Object};
-ghost use Rattle.git_model.specs.Tag.{Tag};
+ghost use Rattle.git_model.specs.{References.{object_at}, Repository.{Object}};
 ghost use Rattle.git_model.specs.TagReading.{tag_read};
 ghost use Rattle.git_objects.specs.Parts.{commit_of, tag_of};
 ghost use Rattle.stream_lex.specs.Headers.{largest_data};

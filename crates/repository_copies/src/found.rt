@@ -1,8 +1,7 @@
 //! The objects that a copy has so far, by their places in the repository.
 
 ghost use Rattle.std.specs.Prelude.{◌≡◌, ◌<◌, [], ◌∷◌, ℕ, List, false, length, get_or, IfOk, OnOk};
-ghost use Rattle.git_model.specs.GoodRepository.{AreObjects};
-ghost use Rattle.git_model.specs.References.{object_at};
+ghost use Rattle.git_model.specs.{GoodRepository.{AreObjects}, References.{object_at}};
 ghost use Rattle.git_model.specs.Repository.{Object};
 ghost use Rattle.repository_copies.specs.Found.{Adds, AreFound};
 

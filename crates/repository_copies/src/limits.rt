@@ -1,13 +1,10 @@
 //! Whether a repository can be copied: the limits of exports and streams.
 
 ghost use Rattle.std.specs.Prelude.{◌≡◌, ◌<◌, ◌&&◌, ◌↔◌, not, IfOk, IsTrue, length};
-ghost use Rattle.git_model.specs.GoodRepository.{AreObjects};
-ghost use Rattle.git_model.specs.Peeling.{is_no_tag};
-ghost use Rattle.git_model.specs.References.{object_at};
-ghost use Rattle.git_model.specs.RefStore.{RefStore};
+ghost use Rattle.git_model.specs.{GoodRepository.{AreObjects}, Peeling.{is_no_tag}};
+ghost use Rattle.git_model.specs.{References.{object_at}, RefStore.{RefStore}};
 ghost use Rattle.git_model.specs.Repository.{Repository};
-ghost use Rattle.export_text.specs.Marking.{reached_flags};
-ghost use Rattle.export_text.specs.Reached.{is_tag, reached_tags};
+ghost use Rattle.export_text.specs.{Marking.{reached_flags}, Reached.{is_tag, reached_tags}};
 ghost use Rattle.export_laws.specs.Copies.{CanBeCopied};
 
 use crate::fits::all_fit;

@@ -1,15 +1,14 @@
 //! The trees of a copy: git-write-tree(1).
 
 ghost use Rattle.std.specs.Prelude.{◌≡◌, ◌<◌, ℕ, List, Some, IfOk, IfSome, IsSome, OnOk, length};
-ghost use Rattle.git_model.specs.declared.file_mode.FileMode.TheVariants as mode;
-ghost use Rattle.git_model.specs.declared.kind.Kind.TheVariants as kind;
-ghost use Rattle.git_model.specs.GoodRepository.{AreObjects};
-ghost use Rattle.git_model.specs.References.{kind_named, place_of};
+ghost use Rattle.git_model.specs.{GoodRepository.{AreObjects}, References.{kind_named, place_of}};
 ghost use Rattle.git_model.specs.StoredPath.{entries_of as stored_entries};
 ghost use Rattle.git_model.specs.Tree.{TreeEntry as Entry, CanWriteTree, tree_contents};
 ghost use Rattle.git_objects.specs.Parts.{entries_of};
 ghost use Rattle.export_laws.specs.Order.{AreWhole, trees_of};
 ghost use Rattle.repository_copies.specs.Found.{Adds, AreFound, found_objects};
+ghost use Rattle.git_model.specs.declared.file_mode.FileMode.TheVariants as mode;
+ghost use Rattle.git_model.specs.declared.kind.Kind.TheVariants as kind;
 
 use crate::found::Found;
 use git_objects::{FileMode, Memory, Naming, TreeEntry, read_tree};

@@ -1,5 +1,5 @@
 -- Expressions and ranges that can be read, and those beside them that cannot.
-use Rattle.std.specs.Prelude.{◌≡◌, [], ◌∷◌, None, Some, refl, codes}
+use Rattle.std.specs.Prelude.{◌≡◌, [], ◌∷◌, None, Some, map, refl, codes}
 use Rattle.git_model.specs.declared.kind.Kind.TheVariants as kind
 use Rattle.numerals.specs.Numbers.{number_of}
 use Rattle.git_paths.specs.Paths.{is_part}
@@ -31,25 +31,10 @@ unfolding expression_of suffix_of after_caret braced count_of number_of with_byt
 a_quote = refl
 
 -- no base; a reflog; a path that is not canonical; a text in braces; a number of eleven digits
-no_base : expression_of (codes "^1") ≡ None
+no_expressions : map expression_of (codes "^1" ∷ codes "m@{1}" ∷ codes "m:a//b" ∷ codes "m^{/a}" ∷ codes "m~00000000001" ∷ [])
+    ≡ None ∷ None ∷ None ∷ None ∷ None ∷ []
 unfolding expression_of suffix_of after_caret braced count_of number_of with_byte canonical_path is_part
-no_base = refl
-
-a_reflog : expression_of (codes "m@{1}") ≡ None
-unfolding expression_of suffix_of after_caret braced count_of number_of with_byte canonical_path is_part
-a_reflog = refl
-
-two_slashes : expression_of (codes "m:a//b") ≡ None
-unfolding expression_of suffix_of after_caret braced count_of number_of with_byte canonical_path is_part
-two_slashes = refl
-
-a_search : expression_of (codes "m^{/a}") ≡ None
-unfolding expression_of suffix_of after_caret braced count_of number_of with_byte canonical_path is_part
-a_search = refl
-
-too_many_digits : expression_of (codes "m~00000000001") ≡ None
-unfolding expression_of suffix_of after_caret braced count_of number_of with_byte canonical_path is_part
-too_many_digits = refl
+no_expressions = refl
 
 -- a range is parted at its first two dots; one side may be empty
 parted_in_a_path : range_of (codes "m:a..b")
@@ -68,10 +53,7 @@ four_dots : range_of (codes "....") ≡ Some (Either head
 unfolding parted dotted expression_of suffix_of after_caret braced count_of number_of with_byte canonical_path is_part
 four_dots = refl
 
-two_empty_sides : range_of (codes "..") ≡ None
+-- both sides are empty
+no_ranges : map range_of (codes ".." ∷ codes "..." ∷ []) ≡ None ∷ None ∷ []
 unfolding parted dotted expression_of suffix_of after_caret braced count_of number_of with_byte canonical_path is_part
-two_empty_sides = refl
-
-three_dots : range_of (codes "...") ≡ None
-unfolding parted dotted expression_of suffix_of after_caret braced count_of number_of with_byte canonical_path is_part
-three_dots = refl
+no_ranges = refl

@@ -69,21 +69,17 @@ tag_step os wanted a b (Some c) other is leads =
     rw is (tag_from wanted c.kind c.bytes b other (rw is at leads))
 
 module _ (os : List Object) (wanted : Kind) (other : wanted ≢ kind.Tag) where
-  from_end : {a end : List ℕ} (found : List ℕ) → EndsAt os a end
+  -- what is first on the way from an object is first on the way from the end of its tags
+  same_first : {a end : List ℕ} (found : List ℕ) → EndsAt os a end
       → ComesFirstTo (is_of os wanted) (next_to os wanted) end found
-      → ComesFirstTo (is_of os wanted) (next_to os wanted) a found
-  from_end found (at_once a yea) way = way
-  from_end found (later a b end nay is rest) way =
+      ↔ ComesFirstTo (is_of os wanted) (next_to os wanted) a found
+  same_first found (at_once a yea) = (λ way. way, λ way. way)
+  same_first found (later a b end nay is rest) =
       let step = tag_step os wanted a b (object_named a os) other refl is in
-      later a b found step.0 step.1 (from_end found rest way)
-
-  to_end : {a end : List ℕ} (found : List ℕ) → EndsAt os a end
-      → ComesFirstTo (is_of os wanted) (next_to os wanted) a found
-      → ComesFirstTo (is_of os wanted) (next_to os wanted) end found
-  to_end found (at_once a yea) way = way
-  to_end found (later a b end nay is rest) way =
-      let step = tag_step os wanted a b (object_named a os) other refl is in
-      to_end found rest (past (is_of os wanted) (next_to os wanted) a b found step.0 step.1 way)
+      let same = same_first found rest in (
+        λ way. later a b found step.0 step.1 (same.0 way),
+        λ way. same.1 (past (is_of os wanted) (next_to os wanted) a b found step.0 step.1 way),
+      )
 
 same_option : {A : Type 0} (o p : Option A) → ((x : A) → (o ≡ Some x) ↔ (p ≡ Some x)) → o ≡ p
 same_option None None same = refl
@@ -104,9 +100,9 @@ pub peeled_past : (digest : List ℕ → List ℕ) (os : List Object) → AreObj
     → peeled_to os wanted end ≡ peeled_to os wanted id
 peeled_past digest os good wanted id end other way =
     same_option (peeled_to os wanted end) (peeled_to os wanted id) (λ found. (
-      λ is. (peeling_is digest os good wanted id found).1 (from_end os wanted other found way
+      λ is. (peeling_is digest os good wanted id found).1 ((same_first os wanted other found way).0
           ((peeling_is digest os good wanted end found).0 is)),
-      λ is. (peeling_is digest os good wanted end found).1 (to_end os wanted other found way
+      λ is. (peeling_is digest os good wanted end found).1 ((same_first os wanted other found way).1
           ((peeling_is digest os good wanted id found).0 is)),
     ))
 

@@ -1,5 +1,5 @@
 -- Faults: the number of each refusal, and how one is passed on.
-use Rattle.std.specs.Prelude.{◌≡◌, ◌≢◌, ℕ, Option, None, Some, Result, Ok, Err}
+use Rattle.std.specs.Prelude.{ℕ, Result}
 use Rattle.git_model.specs.Results.{GivesOr}
 use Rattle.revisions.specs.declared.fault.Fault.{Fault}
 use Rattle.revisions.specs.declared.fault.Fault.TheVariants as fault

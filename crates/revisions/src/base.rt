@@ -1,12 +1,11 @@
 //! What a base names: gitrevisions(7), "Specifying Revisions", `<sha1>`, `<refname>` and `@`.
 
 ghost use Rattle.std.specs.Prelude.{◌≡◌, ◌++◌, ◌∷◌, [], Option, IfOk, codes, filter_map, slice_get};
-ghost use Rattle.git_model.specs.RefStore.{target_of};
-ghost use Rattle.tenant_tables.specs.Abbreviation.{found_among};
-ghost use Rattle.revisions.specs.declared.fault.Fault.TheVariants as fault;
-ghost use Rattle.git_model.specs.Results.{or_fault};
+ghost use Rattle.git_model.specs.{RefStore.{target_of}, Results.{or_fault}};
 ghost use Rattle.revisions.specs.Faults.{Gives};
-ghost use Rattle.revisions.specs.Resolution.{is_head, ref_meant_by, only_one, abbreviated, ref_or_abbreviation, if_there, base_named};
+ghost use Rattle.revisions.specs.Resolution.{is_head, ref_meant_by, only_one, abbreviated};
+ghost use Rattle.revisions.specs.Resolution.{ref_or_abbreviation, if_there, base_named};
+ghost use Rattle.revisions.specs.declared.fault.Fault.TheVariants as fault;
 
 use crate::fault::Fault;
 use git_objects::{Memory, Name, Naming};

@@ -1,15 +1,12 @@
 //! What the contents of an object refer to. Malformed contents are in no good repository; for them
 //! the answer is not specified.
 
-ghost use Rattle.std.specs.Prelude.{◌≡◌, List, find, slice_get, Some, IfOk};
-ghost use Rattle.std.specs.Option.{option_map};
+ghost use Rattle.std.specs.{Prelude.{◌≡◌, List, find, slice_get, Some, IfOk}, Option.{option_map}};
 ghost use Rattle.std.specs.Str.{bytes_eq};
 ghost use Rattle.git_model.specs.Commit.{Commit, CanWriteCommit, commit_contents};
-ghost use Rattle.git_model.specs.CommitReading.{commit_read};
-ghost use Rattle.git_model.specs.Tag.{Tag, CanWriteTag, tag_contents};
-ghost use Rattle.git_model.specs.TagReading.{tag_read};
+ghost use Rattle.git_model.specs.{CommitReading.{commit_read}, TagReading.{tag_read}};
+ghost use Rattle.git_model.specs.{Tag.{Tag, CanWriteTag, tag_contents}, TreeReading.{tree_read}};
 ghost use Rattle.git_model.specs.Tree.{TreeEntry as Entry, CanWriteTree, tree_contents};
-ghost use Rattle.git_model.specs.TreeReading.{tree_read};
 ghost use Rattle.git_objects.specs.Parts.{entry_of, entries_of};
 
 use commit_walk::first_parent_in;

@@ -1,8 +1,7 @@
 //! How a text is cut before each `^` and `~`: gitrevisions(7). Nothing here takes memory.
 
 ghost use Rattle.std.specs.Prelude.{◌≡◌, ◌<◌, ◌++◌, ◌∷◌, [], false, length, position, MatchOption};
-ghost use Rattle.std.specs.List.{list_any, before_first};
-ghost use Rattle.std.specs.Option.{option_map};
+ghost use Rattle.std.specs.{List.{list_any, before_first}, Option.{option_map}};
 ghost use Rattle.revisions.specs.ExpressionReading.{is_mark, is_colon, cut, after_colon, parted};
 
 fn place_of_mark(text: &[u8]) -> Option<usize>

@@ -1,13 +1,11 @@
 //! How expressions are read: gitrevisions(7), "Specifying Revisions". Nothing is looked up.
 
-ghost use Rattle.std.specs.Prelude.{◌≡◌, ◌++◌, [], codes};
-ghost use Rattle.std.specs.Option.{option_map};
-ghost use Rattle.git_model.specs.Bytes.{holds};
+ghost use Rattle.std.specs.{Prelude.{◌≡◌, ◌++◌, [], codes}, Option.{option_map}};
+ghost use Rattle.git_model.specs.{Bytes.{holds}, Results.{or_fault}};
 ghost use Rattle.git_paths.specs.Reading.{canonical_path};
+ghost use Rattle.revisions.specs.{Faults.{Gives, GivesBy}, ExpressionReading.{path_suffix}};
+ghost use Rattle.revisions.specs.ExpressionReading.{expression_of, is_base, cut, suffixes_of};
 ghost use Rattle.revisions.specs.declared.fault.Fault.TheVariants as fault;
-ghost use Rattle.git_model.specs.Results.{or_fault};
-ghost use Rattle.revisions.specs.Faults.{Gives, GivesBy};
-ghost use Rattle.revisions.specs.ExpressionReading.{is_base, cut, suffixes_of, path_suffix, expression_of};
 
 use crate::cutting::{split_at_colon, split_at_mark, split_at_part, take_piece};
 use crate::expression::Expression;

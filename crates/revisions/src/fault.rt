@@ -2,10 +2,10 @@
 
 ghost use Rattle.std.specs.Prelude.{◌≡◌};
 ghost use Rattle.revisions.specs.Faults.{code_of};
-ghost use Rattle.revisions.specs.declared.fault.Fault.TheVariants.{Memory as OutOfMemory};
+ghost use Rattle.revisions.specs.declared.fault.Fault.TheVariants as fault;
 
 use git_objects::Memory;
-use std::alloc::{AllocError, AllocFailed};
+use std::alloc::AllocFailed;
 use thiserror::Error;
 
 /// Why an expression or a range was refused: gitrevisions(7).
@@ -13,43 +13,19 @@ use thiserror::Error;
 pub enum Fault {
     /// The text is no expression, 3.
     #[error("malformed expression")]
-    Malformed,
+    Malformed = 3,
     /// What it names cannot be peeled to the kind that is asked for, 15.
     #[error("wrong kind")]
-    WrongKind,
+    WrongKind = 15,
     /// It names nothing that the repository has, 16.
     #[error("unknown revision")]
-    UnknownRevision,
+    UnknownRevision = 16,
     /// Several object names begin with the digits, 17.
     #[error("ambiguous abbreviation")]
-    Ambiguous,
+    Ambiguous = 17,
     /// An allocation failed, 90.
     #[error("out of memory")]
-    Memory,
-}
-
-impl From<Memory> for Fault {
-    ghost from_gives = { λ _ e. e ≡ OutOfMemory };
-
-    fn from(_e: Memory) -> Fault {
-        Fault::Memory
-    }
-}
-
-impl From<AllocError> for Fault {
-    ghost from_gives = { λ _ e. e ≡ OutOfMemory };
-
-    fn from(_e: AllocError) -> Fault {
-        Fault::Memory
-    }
-}
-
-impl<T: Drop> From<AllocFailed<T>> for Fault {
-    ghost from_gives = { λ _ e. e ≡ OutOfMemory };
-
-    fn from(_e: AllocFailed<T>) -> Fault {
-        Fault::Memory
-    }
+    Memory = 90,
 }
 
 impl Fault {
@@ -58,12 +34,22 @@ impl Fault {
     pub fn code(self) -> u16
         ensures { result ≡ code_of self }
     {
-        match self {
-            Fault::Malformed => 3,
-            Fault::WrongKind => 15,
-            Fault::UnknownRevision => 16,
-            Fault::Ambiguous => 17,
-            Fault::Memory => 90,
-        }
+        self as u16
+    }
+}
+
+impl From<Memory> for Fault {
+    ghost from_gives = { λ _ refused. refused ≡ fault.Memory };
+
+    fn from(_refused: Memory) -> Fault {
+        Fault::Memory
+    }
+}
+
+impl<T: Drop> From<AllocFailed<T>> for Fault {
+    ghost from_gives = { λ _ refused. refused ≡ fault.Memory };
+
+    fn from(_refused: AllocFailed<T>) -> Fault {
+        Fault::Memory
     }
 }

@@ -1,10 +1,9 @@
 //! First parents: gitrevisions(7), `<rev>~<n>`. The commits of a walk are kept for the next one.
 
-ghost use Rattle.std.specs.Prelude.{◌≡◌, ◌≢◌, ◌↔◌, ℕ, ◌^◌, ◌<◌, ◌≤◌, [], Some, Err, IsTrue, OnOk, IfErr, IfSome, List, length, slice_get};
-ghost use Rattle.git_model.specs.Repository.{Object};
-ghost use Rattle.git_model.specs.GoodRepository.{AreObjects};
-ghost use Rattle.revisions.specs.Faults.{Gives};
-ghost use Rattle.revisions.specs.FirstParents.{EndsOn, IsFirstParentChain};
+ghost use Rattle.std.specs.Prelude.{◌≡◌, ◌≢◌, ◌↔◌, ℕ, ◌^◌, ◌<◌, ◌≤◌, [], Some, Err, IsTrue, OnOk};
+ghost use Rattle.std.specs.Prelude.{IfErr, IfSome, List, length, slice_get};
+ghost use Rattle.git_model.specs.{Repository.{Object}, GoodRepository.{AreObjects}};
+ghost use Rattle.revisions.specs.{Faults.{Gives}, FirstParents.{EndsOn, IsFirstParentChain}};
 ghost use Rattle.revisions.specs.Resolution.{nth_ancestor};
 
 use crate::fault::Fault;

@@ -2,11 +2,11 @@
 //! nothing.
 
 ghost use Rattle.std.specs.Prelude.{◌≡◌, ◌≢◌, ◌↔◌, ◌++◌, [], List, ℕ, None, Some, codes, false};
-ghost use Rattle.std.specs.List.{list_any, flat_map, AllByRecursion};
-ghost use Rattle.std.specs.Option.{option_map};
+ghost use Rattle.std.specs.{List.{list_any, flat_map, AllByRecursion}, Option.{option_map}};
 ghost use Rattle.git_model.specs.Bytes.{Holds};
 ghost use Rattle.revisions.specs.declared.commit_range.Range.TheVariants.{From};
-ghost use Rattle.revisions.specs.ExpressionReading.{cut, is_mark, IsPiece, dotted, expression_of, parted, range_of, IsPartedAtFirst};
+ghost use Rattle.revisions.specs.ExpressionReading.{cut, is_mark, IsPiece, dotted, expression_of};
+ghost use Rattle.revisions.specs.ExpressionReading.{parted, range_of, IsPartedAtFirst};
 
 /// The parts that a text is cut into are together the text: nothing is lost, and nothing comes
 /// twice.

@@ -1,11 +1,9 @@
 //! Parents of commits: gitrevisions(7), `<rev>^<n>`.
 
 ghost use Rattle.std.specs.Prelude.{◌≡◌, List, IfOk, slice_get};
-ghost use Rattle.git_model.specs.Repository.{Object};
-ghost use Rattle.git_model.specs.References.{parents_in, parents_of};
+ghost use Rattle.git_model.specs.{Repository.{Object}, References.{parents_in, parents_of}};
 ghost use Rattle.git_model.specs.GoodRepository.{AreObjects, IsValid};
-ghost use Rattle.revisions.specs.Faults.{Gives};
-ghost use Rattle.revisions.specs.Resolution.{nth_parent};
+ghost use Rattle.revisions.specs.{Faults.{Gives}, Resolution.{nth_parent}};
 
 use crate::contents::parent_in;
 use crate::fault::Fault;

@@ -1,14 +1,11 @@
 //! Peeling: gitrevisions(7), `<rev>^{<type>}` and `<rev>^{}`.
 
 ghost use Rattle.std.specs.Prelude.{◌≡◌, List, IfOk};
-ghost use Rattle.git_model.specs.Repository.{Object};
-ghost use Rattle.git_model.specs.GoodRepository.{AreObjects, IsValid};
+ghost use Rattle.git_model.specs.{Repository.{Object}, GoodRepository.{AreObjects, IsValid}};
 ghost use Rattle.git_model.specs.Peeling.{is_of, is_there_untagged, next_from, next_to};
-ghost use Rattle.revisions.specs.declared.fault.Fault.TheVariants as fault;
-ghost use Rattle.git_model.specs.Results.{or_fault};
-ghost use Rattle.revisions.specs.Faults.{Gives};
-ghost use Rattle.revisions.specs.Ways.{is_end, first_end};
+ghost use Rattle.revisions.specs.{Faults.{Gives}, Ways.{is_end, first_end}};
 ghost use Rattle.revisions.specs.Resolution.{peeled, peeled_untagged};
+ghost use Rattle.revisions.specs.declared.fault.Fault.TheVariants as fault;
 
 use crate::contents::{target_in, tree_in};
 use crate::fault::Fault;
@@ -113,6 +110,7 @@ fn first_end<N: Naming>(
 /// `Fault::WrongKind` (15) where this leads to no object of the kind, also where no object has this
 /// name; `Fault::Memory` (90) where there is no room to read a commit or a tag. Nothing changes.
 /// The objects are those of a good repository; among others the answer is not specified.
+#[tactic(auto, unfolding(git_model::specs::Peeling::peeled_to))]
 pub fn peel<N: Naming>(
     alloc: Global,
     objects: &Objects<'_, N>,
@@ -121,14 +119,12 @@ pub fn peel<N: Naming>(
 ) -> Result<Name, Fault>
     ensures { AreObjects N.digest_of objects.now → Gives result (peeled objects.now wanted id) }
 {
-    match first_end(alloc, objects, Some(wanted), id)? {
-        Some(end) => Ok(end),
-        None => Err(Fault::WrongKind),
-    }
+    first_end(alloc, objects, Some(wanted), id)?.ok_or(Fault::WrongKind)
 }
 
 /// Follows tags from an object to the first object that is not a tag. The refusals are those of
 /// `peel`.
+#[tactic(auto, unfolding(git_model::specs::Peeling::without_tags))]
 pub fn peel_tags<N: Naming>(
     alloc: Global,
     objects: &Objects<'_, N>,
@@ -136,8 +132,5 @@ pub fn peel_tags<N: Naming>(
 ) -> Result<Name, Fault>
     ensures { AreObjects N.digest_of objects.now → Gives result (peeled_untagged objects.now id) }
 {
-    match first_end(alloc, objects, None, id)? {
-        Some(end) => Ok(end),
-        None => Err(Fault::WrongKind),
-    }
+    first_end(alloc, objects, None, id)?.ok_or(Fault::WrongKind)
 }

@@ -1,15 +1,10 @@
 //! The commits of a range: gitrevisions(7), "Specifying Ranges".
 
 ghost use Rattle.std.specs.Prelude.{◌≡◌, true, All, IfOk};
-ghost use Rattle.git_model.specs.GoodRepository.{AreObjects};
-ghost use Rattle.git_model.specs.Peeling.{is_of};
-ghost use Rattle.git_model.specs.Reach.{reaches};
+ghost use Rattle.git_model.specs.{GoodRepository.{AreObjects}, Peeling.{is_of}, Reach.{reaches}};
 ghost use Rattle.commit_walk.specs.Logs.{log_of};
-ghost use Rattle.tenant_tables.specs.Objects.{objects};
-ghost use Rattle.tenant_tables.specs.IsBackedBy.{IsBackedBy};
-ghost use Rattle.tenant_tables.specs.View.{in_sight};
-ghost use Rattle.revisions.specs.Faults.{Gives, GivesBy};
-ghost use Rattle.revisions.specs.FirstParents.{IsFirstParentChain};
+ghost use Rattle.tenant_tables.specs.{Objects.{objects}, IsBackedBy.{IsBackedBy}, View.{in_sight}};
+ghost use Rattle.revisions.specs.{Faults.{Gives, GivesBy}, FirstParents.{IsFirstParentChain}};
 ghost use Rattle.revisions.specs.Ranges.{both_named, range_named, is_in_range};
 ghost use Rattle.revisions.specs.Logs.{named_log, range_log};
 

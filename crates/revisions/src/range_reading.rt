@@ -3,7 +3,7 @@
 ghost use Rattle.revisions.specs.declared.fault.Fault.TheVariants as fault;
 ghost use Rattle.git_model.specs.Results.{or_fault};
 ghost use Rattle.revisions.specs.Faults.{Gives};
-ghost use Rattle.revisions.specs.ExpressionReading.{side_of, sides_of, either_of, between_of, dotted, range_of};
+ghost use Rattle.revisions.specs.ExpressionReading.{side_of, sides_of, dotted, range_of};
 
 use crate::commit_range::Range;
 use crate::cutting::split_at_part;
@@ -38,28 +38,6 @@ fn read_sides<'a>(
     Ok((left, right))
 }
 
-fn read_either<'a>(
-    alloc: Global,
-    left: &'a [u8],
-    right: &'a [u8],
-) -> Result<Range<Expression<'a>>, Fault>
-    ensures { Gives result (or_fault fault.Malformed (either_of left.now right.now)) }
-{
-    let (left, right) = read_sides(alloc, left, right)?;
-    Ok(Range::Either(left, right))
-}
-
-fn read_between<'a>(
-    alloc: Global,
-    left: &'a [u8],
-    right: &'a [u8],
-) -> Result<Range<Expression<'a>>, Fault>
-    ensures { Gives result (or_fault fault.Malformed (between_of left.now right.now)) }
-{
-    let (left, right) = read_sides(alloc, left, right)?;
-    Ok(Range::Between(left, right))
-}
-
 // What is before and after the first two dots. A third dot makes it the form with three.
 #[tactic(auto, unfolding(crate::specs::ExpressionReading::dotted))]
 fn read_dotted<'a>(
@@ -70,9 +48,11 @@ fn read_dotted<'a>(
     ensures { Gives result (or_fault fault.Malformed (dotted left.now right.now)) }
 {
     if right.starts_with(b".") {
-        return read_either(alloc, left, right.split_at(1).1);
+        let (left, right) = read_sides(alloc, left, right.split_at(1).1)?;
+        return Ok(Range::Either(left, right));
     }
-    read_between(alloc, left, right)
+    let (left, right) = read_sides(alloc, left, right)?;
+    Ok(Range::Between(left, right))
 }
 
 /// Reads a range: one expression, or two with `..` or `...` between them. One of the two may be

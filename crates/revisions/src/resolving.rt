@@ -1,14 +1,10 @@
 //! What an expression names: gitrevisions(7), "Specifying Revisions".
 
-ghost use Rattle.std.specs.Prelude.{◌≡◌};
 ghost use Rattle.git_model.specs.GoodRepository.{AreObjects};
-ghost use Rattle.tenant_tables.specs.Objects.{objects};
-ghost use Rattle.tenant_tables.specs.IsBackedBy.{IsBackedBy};
-ghost use Rattle.tenant_tables.specs.View.{in_sight};
-ghost use Rattle.revisions.specs.Faults.{Gives};
-ghost use Rattle.revisions.specs.FirstParents.{IsFirstParentChain};
-ghost use Rattle.revisions.specs.Ranges.{commit_named};
-ghost use Rattle.revisions.specs.Resolution.{at_path, after_suffix, after_suffixes, named_by, resolved};
+ghost use Rattle.tenant_tables.specs.{Objects.{objects}, IsBackedBy.{IsBackedBy}, View.{in_sight}};
+ghost use Rattle.revisions.specs.{Faults.{Gives}, FirstParents.{IsFirstParentChain}};
+ghost use Rattle.revisions.specs.{Ranges.{commit_named}, Resolution.{named_by}};
+ghost use Rattle.revisions.specs.Resolution.{resolved, at_path, after_suffix, after_suffixes};
 ghost use Rattle.revisions.specs.TagEnds.{AreChains, AreTagEnds};
 
 use crate::base::{base_named, if_there};

@@ -1,11 +1,8 @@
 //! What stands at a path of a stored tree: gitrevisions(7), `<rev>:<path>`. Only the trees along
 //! the path are read.
 
-ghost use Rattle.std.specs.Prelude.{◌≡◌, List, IfOk, find};
-ghost use Rattle.std.specs.Option.{option_map};
-ghost use Rattle.std.specs.Str.{bytes_eq};
-ghost use Rattle.git_model.specs.Repository.{Object};
-ghost use Rattle.git_model.specs.GoodRepository.{AreObjects, IsValid};
+ghost use Rattle.std.specs.{Prelude.{◌≡◌, List, IfOk, find}, Option.{option_map}, Str.{bytes_eq}};
+ghost use Rattle.git_model.specs.{Repository.{Object}, GoodRepository.{AreObjects, IsValid}};
 ghost use Rattle.git_model.specs.StoredPath.{entries_in, entries_of, entries_below, entry_below};
 ghost use Rattle.git_objects.specs.Parts.{entry_of};
 

@@ -1,7 +1,8 @@
 //! How one suffix is read: gitrevisions(7), "Specifying Revisions".
 
 ghost use Rattle.std.specs.Prelude.{◌≡◌};
-ghost use Rattle.revisions.specs.ExpressionReading.{in_32_bits, count_of, braced, after_caret, suffix_of};
+ghost use Rattle.revisions.specs.ExpressionReading.{in_32_bits, count_of, braced, after_caret};
+ghost use Rattle.revisions.specs.ExpressionReading.{suffix_of};
 
 use crate::suffix::Suffix;
 use git_objects::Kind;

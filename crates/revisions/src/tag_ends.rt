@@ -1,12 +1,8 @@
 //! Ways along tags: gitrevisions(7), `<rev>^{}`. The end of a long way is kept for the next one.
 
-ghost use Rattle.std.specs.Prelude.{◌≡◌, [], List, ℕ, OnOk, IfOk, IfSome};
-ghost use Rattle.std.specs.Map.{lookup};
-ghost use Rattle.std.specs.Str.{bytes_eq};
-ghost use Rattle.git_model.specs.Repository.{Object};
-ghost use Rattle.git_model.specs.GoodRepository.{AreObjects};
-ghost use Rattle.revisions.specs.Faults.{Gives};
-ghost use Rattle.revisions.specs.Resolution.{peeled, peeled_untagged};
+ghost use Rattle.std.specs.{Prelude.{◌≡◌, [], List, ℕ, IfOk, IfSome}, Map.{lookup}, Str.{bytes_eq}};
+ghost use Rattle.git_model.specs.{Repository.{Object}, GoodRepository.{AreObjects}};
+ghost use Rattle.revisions.specs.{Faults.{Gives}, Resolution.{peeled, peeled_untagged}};
 ghost use Rattle.revisions.specs.TagEnds.{AreTagEnds, EndsAt};
 
 use crate::fault::Fault;

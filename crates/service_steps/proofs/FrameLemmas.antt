@@ -3,7 +3,8 @@ use Rattle.std.proofs.Common.{◌≡◌, ◌<◌, true, [], length, Option, Some
 use Rattle.service_steps.specs.declared.kind.Kind.{Kind}
 use Rattle.service_steps.specs.declared.kind.Kind.TheVariants as kind
 use Rattle.service_steps.specs.Frames.{kind_of, kind_number, all_kinds, tenant_limit, body_limit, wrong_part, shown_wrong, wrong_at, IsUnfinished}
-use Rattle.service_steps.proofs.FrameParts.{Judges, Kinds, none_begun, number_of}
+use Rattle.service_steps.specs.FrameKinds.{Judges, Kinds, rules_of}
+use Rattle.service_steps.proofs.FrameParts.{none_begun, number_of}
 
 own_kind : (k : Kind) → (kind_number k < 256) × (kind_of (kind_number k) ≡ Some k)
 own_kind kind.Open = (omega arith, refl)
@@ -24,7 +25,7 @@ pub none_read : IsUnfinished []
 unfolding wrong_part
 none_read = none_begun wrong_at refl
 
-pub steps : Kinds wrong_at kind_of kind_number tenant_limit body_limit (λ _ _. true)
+pub steps : Kinds (rules_of wrong_at kind_of kind_number tenant_limit body_limit (λ _ _. true))
 steps = record {
   judges = judges;
   numbered = number_of kind_number all_kinds;

@@ -1,28 +1,20 @@
 -- A frame part by part, whatever its kinds are: which part is wrong, and what is missing of a frame that is not whole.
-use Rattle.std.proofs.Common.{◌≡◌, ◌≢◌, ℕ, ◌+◌, ◌^◌, ◌<◌, ◌≤◌, Bool, true, false, cond, eqb, ltb, is_some, true≢false, List, [], ◌∷◌, ◌++◌, length, replicate, Option, None, Some, IfSome, Ok, Err, refl, sym, ap, subst, ◌∙◌, append_assoc, append-nil, arith}
+use Rattle.std.proofs.Common.{◌≡◌, ◌≢◌, ℕ, ◌+◌, ◌^◌, ◌<◌, ◌≤◌, Bool, true, false, cond, eqb, ltb, is_some, true≢false, List, [], ◌∷◌, ◌++◌, length, replicate, Option, None, Some, IfSome, Result, Ok, Err, IsErrAnd, refl, sym, ap, subst, ◌∙◌, append_assoc, append-nil, arith}
 use Rattle.std.specs.Int.{w16, w32, to_be_bytes}
 use Rattle.std.specs.List.{find}
 use Rattle.std.specs.Option.{unwrap_or}
 use Rattle.std.proofs.lemmas.Bool.{eqb-true, lt-ltb, le-ltb, ltb-true, ltb-false}
 use Rattle.std.proofs.lemmas.List.{length-append, length-replicate}
+use Rattle.std.proofs.lemmas.Result.{err_from_is_err_and}
 use Rattle.byte_devices.specs.Device.{Device}
 use Rattle.service_steps.specs.declared.frame_fault.FrameFault.{FrameFault}
 use Rattle.service_steps.specs.declared.frame_fault.FrameFault.TheVariants as fault
 use Rattle.service_steps.specs.Frames.{Frame, Fits, sized, frame_text, IsBadBy, IsUnfinishedBy}
-use Rattle.service_steps.specs.Reading.{HasReadWell, IsUnfinishedPart, ReadsKindBy, ReadsNone, ReadsSized}
+use Rattle.service_steps.specs.FrameKinds.{wrong_within, Judges, Kinds, Rules}
+use Rattle.service_steps.specs.Reading.{HasReadWell, IsUnfinishedPart, ReadsFrame, ReadsKindBy, ReadsNone, ReadsSized}
 use Rattle.byte_devices.proofs.ReadLemmas.{well_more, all_more, failed_more}
 
 -- ---- which part is wrong
-
--- Where a frame is wrong whose name and body may be so long, and whose body has to pass this test.
-abbrev pub wrong_within : ℕ → ℕ → (List ℕ → Bool) → ℕ → List ℕ → Option ℕ
-wrong_within names bodies good n body =
-    cond (ltb names n) (Some 3) (cond (ltb bodies (length body)) (Some (7 + n)) (cond (good body) None (Some (7 + n + length body))))
-
--- The frames of the kind with this number are wrong there.
-pub record Judges (wrong_at : Frame → Option ℕ) (kind names bodies : ℕ) (good : List ℕ → Bool) : Type 0 where
-  pub small : kind < 256
-  pub is : (tenant body : List ℕ) → wrong_at (record { kind = kind; tenant = tenant; body = body }) ≡ wrong_within names bodies good (length tenant) body
 
 wrong_name : (names bodies : ℕ) (good : List ℕ → Bool) (n : ℕ) (body : List ℕ) → names < n → wrong_within names bodies good n body ≡ Some 3
 wrong_name names bodies good n body over = rw (lt-ltb names n over) refl
@@ -271,40 +263,42 @@ found_passes {X} p (x ∷ all) k is = by (p x) refl is (found_passes p all k)
 pub number_of : {K : Type 0} (number : K → ℕ) (all : List K) (byte : ℕ) (k : K) → find (λ (x : K). eqb (number x) byte) all ≡ Some k → byte ≡ number k
 number_of {K} number all byte k is = sym (eqb-true (number k) byte (found_passes (λ (x : K). eqb (number x) byte) all k is))
 
--- What is known of the frames of some kinds.
-pub record Kinds {K : Type 0} (wrong_at : Frame → Option ℕ) (kind_of : ℕ → Option K) (number names bodies : K → ℕ) (good : K → List ℕ → Bool) : Type 0 where
-  pub judges : (k : K) → Judges wrong_at (number k) (names k) (bodies k) (good k)
-  pub numbered : (byte : ℕ) (k : K) → kind_of byte ≡ Some k → byte ≡ number k
-  pub unknown : (byte : ℕ) → kind_of byte ≡ None → wrong_at (record { kind = byte; tenant = []; body = [] }) ≡ Some 1
-  pub none : IsUnfinishedBy wrong_at []
+pub kind_fails : {K : Type 0} {rules : Rules K} → Kinds rules
+    → (a b : Device) (e : FrameFault) → ReadsKindBy rules.kind_of a (Err e) b → ReadsNone rules.wrong_at a e b
+kind_fails {K} {rules} kinds a b fault.BadFrame r = (r.0 ∷ [], bad_kind rules.wrong_at r.0 r.1 (kinds.unknown r.0 r.2), r.3)
+kind_fails {K} {rules} kinds a b fault.CutOff r = absurd r
+kind_fails {K} {rules} kinds a b fault.Device r = ([], kinds.none, r)
+kind_fails {K} {rules} kinds a b fault.Memory r = absurd r
 
-pub kind_fails : {K : Type 0} {wrong_at : Frame → Option ℕ} {kind_of : ℕ → Option K} {number names bodies : K → ℕ} {good : K → List ℕ → Bool} → Kinds wrong_at kind_of number names bodies good
-    → (a b : Device) (e : FrameFault) → ReadsKindBy kind_of a (Err e) b → ReadsNone wrong_at a e b
-kind_fails {K} {wrong_at} kinds a b fault.BadFrame r = (r.0 ∷ [], bad_kind wrong_at r.0 r.1 (kinds.unknown r.0 r.2), r.3)
-kind_fails {K} {wrong_at} kinds a b fault.CutOff r = absurd r
-kind_fails {K} {wrong_at} kinds a b fault.Device r = ([], kinds.none, r)
-kind_fails {K} {wrong_at} kinds a b fault.Memory r = absurd r
-
-pub knows : {K : Type 0} {wrong_at : Frame → Option ℕ} {kind_of : ℕ → Option K} {number names bodies : K → ℕ} {good : K → List ℕ → Bool} → Kinds wrong_at kind_of number names bodies good
-    → (a b : Device) (k : K) (o : Option K) → o ≡ Some k → ReadsKindBy kind_of a (Ok o) b → HasReadWell a b (number k ∷ [])
-knows {K} {wrong_at} {kind_of} kinds a b k o is r =
-    let known : ReadsKindBy kind_of a (Ok (Some k)) b = subst (λ (p : Option K). ReadsKindBy kind_of a (Ok p) b) is r in
+pub knows : {K : Type 0} {rules : Rules K} → Kinds rules
+    → (a b : Device) (k : K) (o : Option K) → o ≡ Some k → ReadsKindBy rules.kind_of a (Ok o) b → HasReadWell a b (rules.number k ∷ [])
+knows {K} {rules} kinds a b k o is r =
+    let known : ReadsKindBy rules.kind_of a (Ok (Some k)) b = subst (λ (p : Option K). ReadsKindBy rules.kind_of a (Ok p) b) is r in
     subst (λ (n : ℕ). HasReadWell a b (n ∷ [])) (kinds.numbered known.0 k known.2) known.3
 
-pub name_fails : {K : Type 0} {wrong_at : Frame → Option ℕ} {kind_of : ℕ → Option K} {number names bodies : K → ℕ} {good : K → List ℕ → Bool} → Kinds wrong_at kind_of number names bodies good
-    → (a b c : Device) (k : K) (e : FrameFault) (room : List ℕ) (n : ℕ) → n ≡ names k → HasReadWell a b (number k ∷ [])
-    → ReadsSized w16 n b (Err e) c room → ReadsNone wrong_at a e c
-name_fails {K} {wrong_at} {kind_of} {number} kinds a b c k e room n is h r =
-    stops_in_name (number k) a b c e room (kinds.judges k) h (subst (λ (m : ℕ). ReadsSized w16 m b (Err e) c room) is r)
+pub name_fails : {K : Type 0} {rules : Rules K} → Kinds rules
+    → (a b c : Device) (k : K) (e : FrameFault) (room : List ℕ) (n : ℕ) → n ≡ rules.names k → HasReadWell a b (rules.number k ∷ [])
+    → ReadsSized w16 n b (Err e) c room → ReadsNone rules.wrong_at a e c
+name_fails {K} {rules} kinds a b c k e room n is h r =
+    stops_in_name (rules.number k) a b c e room (kinds.judges k) h (subst (λ (m : ℕ). ReadsSized w16 m b (Err e) c room) is r)
 
-pub named : {K : Type 0} {wrong_at : Frame → Option ℕ} {kind_of : ℕ → Option K} {number names bodies : K → ℕ} {good : K → List ℕ → Bool} → Kinds wrong_at kind_of number names bodies good
-    → (a b c : Device) (k : K) (tenant : List ℕ) (n : ℕ) → n ≡ names k → HasReadWell a b (number k ∷ [])
-    → ReadsSized w16 n b (Ok tt) c tenant → IsNamed (number k) (names k) a c tenant
-named {K} {wrong_at} {kind_of} {number} {names} kinds a b c k tenant n is h r =
-    name_read (number k) (names k) a b c tenant h (subst (λ (m : ℕ). ReadsSized w16 m b (Ok tt) c tenant) is r)
+pub named : {K : Type 0} {rules : Rules K} → Kinds rules
+    → (a b c : Device) (k : K) (tenant : List ℕ) (n : ℕ) → n ≡ rules.names k → HasReadWell a b (rules.number k ∷ [])
+    → ReadsSized w16 n b (Ok tt) c tenant → IsNamed (rules.number k) (rules.names k) a c tenant
+named {K} {rules} kinds a b c k tenant n is h r =
+    name_read (rules.number k) (rules.names k) a b c tenant h (subst (λ (m : ℕ). ReadsSized w16 m b (Ok tt) c tenant) is r)
 
-pub body_fails : {K : Type 0} {wrong_at : Frame → Option ℕ} {kind_of : ℕ → Option K} {number names bodies : K → ℕ} {good : K → List ℕ → Bool} → Kinds wrong_at kind_of number names bodies good
-    → (a b c : Device) (k : K) (tenant : List ℕ) (e : FrameFault) (room : List ℕ) (n : ℕ) → n ≡ bodies k
-    → IsNamed (number k) (names k) a b tenant → ReadsSized w32 n b (Err e) c room → ReadsNone wrong_at a e c
-body_fails {K} {wrong_at} {kind_of} {number} kinds a b c k tenant e room n is h r =
-    stops_in_body (number k) a b c tenant e room (kinds.judges k) h (subst (λ (m : ℕ). ReadsSized w32 m b (Err e) c room) is r)
+pub body_fails : {K : Type 0} {rules : Rules K} → Kinds rules
+    → (a b c : Device) (k : K) (tenant : List ℕ) (e : FrameFault) (room : List ℕ) (n : ℕ) → n ≡ rules.bodies k
+    → IsNamed (rules.number k) (rules.names k) a b tenant → ReadsSized w32 n b (Err e) c room → ReadsNone rules.wrong_at a e c
+body_fails {K} {rules} kinds a b c k tenant e room n is h r =
+    stops_in_body (rules.number k) a b c tenant e room (kinds.judges k) h (subst (λ (m : ℕ). ReadsSized w32 m b (Err e) c room) is r)
+
+-- No frame was read, whatever a frame would be.
+pub frame_fails : {X : Type 0} (wrong_at : Frame → Option ℕ) (frame : X → Frame) (a b : Device) (e : FrameFault) (r : Result (Option X) FrameFault)
+    → IsErrAnd r (λ f. f ≡ e) → ReadsNone wrong_at a e b → ReadsFrame wrong_at frame a r b
+frame_fails wrong_at frame a b e r is none = let q = err_from_is_err_and r is in rw (q.1, q.2) none
+
+-- The same frame was read.
+pub same_read : (wrong_at : Frame → Option ℕ) (a b : Device) (f g : Frame) → f ≡ g → ReadsWhole wrong_at a b g → ReadsWhole wrong_at a b f
+same_read wrong_at a b f g is whole = subst (λ (h : Frame). ReadsWhole wrong_at a b h) (sym is) whole

@@ -4,7 +4,8 @@ use Rattle.service_steps.specs.declared.kind.Kind.TheVariants as kind
 use Rattle.service_steps.specs.declared.request_kind.RequestKind.{RequestKind}
 use Rattle.service_steps.specs.declared.request_kind.RequestKind.TheVariants as of
 use Rattle.service_steps.specs.Requests.{request_kind_of, request_number, all_request_kinds, name_limit, request_limit, is_body, wrong_request_part, shown_wrong_request, wrong_request_at, IsUnfinishedRequest}
-use Rattle.service_steps.proofs.FrameParts.{Judges, Kinds, none_begun, number_of}
+use Rattle.service_steps.specs.FrameKinds.{Judges, Kinds, rules_of}
+use Rattle.service_steps.proofs.FrameParts.{none_begun, number_of}
 
 own_kind : (k : RequestKind) → (request_number k < 256) × (request_kind_of (request_number k) ≡ Some k)
 own_kind (of.Step kind.Open) = (omega arith, refl)
@@ -33,7 +34,7 @@ pub no_request_read : IsUnfinishedRequest []
 unfolding wrong_request_part
 no_request_read = none_begun wrong_request_at refl
 
-pub requests : Kinds wrong_request_at request_kind_of request_number name_limit request_limit is_body
+pub requests : Kinds (rules_of wrong_request_at request_kind_of request_number name_limit request_limit is_body)
 requests = record {
   judges = judges;
   numbered = number_of request_number all_request_kinds;

@@ -1,5 +1,5 @@
 -- A text that is written in two parts.
-use Rattle.std.proofs.Common.{◌≡◌, ℕ, ◌+◌, ◌-◌, List, ◌++◌, length, take, Option, Result, Ok, Err, OnErr, sym, ap, ◌∙◌, append_assoc, arith}
+use Rattle.std.proofs.Common.{◌≡◌, ℕ, ◌+◌, ◌-◌, List, ◌++◌, length, take, Option, sym, ap, ◌∙◌, append_assoc, arith}
 use Rattle.std.proofs.Math.Seq.{take-append_seam}
 use Rattle.std.proofs.lemmas.List.{length-append}
 use Rattle.std.proofs.lemmas.Slice.{take-put_mid}
@@ -25,10 +25,6 @@ front_of_later a b c first later written f = record {
   parts = ap (λ (l : List ℕ). first ++ l) f.parts ∙ sym (append_assoc first f.front f.rest);
   appends = Appends-trans a b c first f.front written f.appends;
 }
-
-pub on_err : {A E P Q : Type 0} (r : Result A E) → (P → Q) → OnErr r P → OnErr r Q
-on_err (Ok a) f p = tt
-on_err (Err e) f p = f p
 
 -- Two parts are put into room that is long enough, one after the other.
 pub take-joined : (a b first later room : List ℕ) (n k : ℕ) → a ≡ first → b ≡ later → length first ≡ n → length later ≡ k

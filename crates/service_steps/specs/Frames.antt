@@ -120,8 +120,12 @@ IsCutOff bytes = IsCutOffBy wrong_at bytes
 abbrev pub IsBad : List ℕ → Type 0
 IsBad bytes = IsBadBy wrong_at bytes
 
+-- A frame of a kind that has this number.
+abbrev pub framed_by : {K : Type 0} → (K → ℕ) → K → List ℕ → List ℕ → Frame
+framed_by number k tenant body = record { kind = number k; tenant = tenant; body = body }
+
 abbrev pub framed : Kind → List ℕ → List ℕ → Frame
-framed k tenant body = record { kind = kind_number k; tenant = tenant; body = body }
+framed = framed_by kind_number
 
 -- A step as a frame.
 abbrev pub frame_of : Step → Frame

@@ -1,6 +1,7 @@
 -- In reading order.
 pub mod Faults
 pub mod Frames
+pub mod FrameKinds
 pub mod FrameFaults
 pub mod Reading
 pub mod Requests

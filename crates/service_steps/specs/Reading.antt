@@ -5,9 +5,8 @@ use Rattle.byte_devices.specs.Device.{Device}
 pub use Rattle.byte_devices.specs.Reading.{HasReadWell, HasReadAll, HasFailed, AreBytes, IsShort, Fills}
 use Rattle.service_steps.specs.declared.frame_fault.FrameFault.{FrameFault}
 use Rattle.service_steps.specs.declared.frame_fault.FrameFault.TheVariants as fault
-use Rattle.service_steps.specs.declared.kind.Kind.{Kind}
 use Rattle.service_steps.specs.declared.step.Step.{Step}
-use Rattle.service_steps.specs.Frames.{Frame, sized, kind_of, frame_of, frame_text, wrong_at, IsGoodBy, IsUnfinishedBy, IsCutOffBy, IsBadBy}
+use Rattle.service_steps.specs.Frames.{Frame, sized, frame_of, frame_text, wrong_at, IsGoodBy, IsUnfinishedBy, IsCutOffBy, IsBadBy}
 
 -- No frame was read, for this fault: a bad frame up to the byte that shows it, or an unfinished one.
 abbrev pub ReadsNone : (Frame → Option ℕ) → Device → FrameFault → Device → Type 0
@@ -45,9 +44,6 @@ ReadsKindBy kind_of old (Err fault.BadFrame) new =
 ReadsKindBy kind_of old (Err fault.Device) new = HasFailed old new []
 ReadsKindBy kind_of old (Err fault.CutOff) new = ⊥
 ReadsKindBy kind_of old (Err fault.Memory) new = ⊥
-
-abbrev pub ReadsKind : Device → Result (Option Kind) FrameFault → Device → Type 0
-ReadsKind old r new = ReadsKindBy kind_of old r new
 
 -- The numbers of a width are below this one.
 abbrev pub bound : Width → ℕ

@@ -3,14 +3,9 @@ use Rattle.std.specs.Prelude.{Option, Result}
 use Rattle.byte_devices.specs.Device.{Device}
 use Rattle.service_steps.specs.declared.frame_fault.FrameFault.{FrameFault}
 use Rattle.service_steps.specs.declared.request.Request.{Request}
-use Rattle.service_steps.specs.declared.request_kind.RequestKind.{RequestKind}
-use Rattle.service_steps.specs.Reading.{ReadsFrame, ReadsKindBy}
-use Rattle.service_steps.specs.Requests.{request_kind_of, request_frame, wrong_request_at}
+use Rattle.service_steps.specs.Reading.{ReadsFrame}
+use Rattle.service_steps.specs.Requests.{request_frame, wrong_request_at}
 
 -- For a request, exactly its frame was read.
 abbrev pub ReadsRequest : Device → Result (Option Request) FrameFault → Device → Type 0
 ReadsRequest old r new = ReadsFrame wrong_request_at request_frame old r new
-
--- The kind of its frame was read.
-abbrev pub ReadsRequestKind : Device → Result (Option RequestKind) FrameFault → Device → Type 0
-ReadsRequestKind old r new = ReadsKindBy request_kind_of old r new

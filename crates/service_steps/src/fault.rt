@@ -13,17 +13,17 @@ use thiserror::Error;
 pub enum ServiceFault {
     /// A Feed, an End or an abandon of a tenant without a stream: 30.
     #[error("fault 30")]
-    NoStream,
+    NoStream = 30,
     /// An Open of a tenant that has a stream, even a dead one, a copy to that tenant, or its removal:
     /// 31.
     #[error("fault 31")]
-    StreamIsOpen,
+    StreamIsOpen = 31,
     /// A name that no tenant can have: 32.
     #[error("fault 32")]
-    BadTenantName,
+    BadTenantName = 32,
     /// A copy to a tenant that has an object, a ref, or a HEAD other than `refs/heads/main`: 33.
     #[error("fault 33")]
-    TenantNotEmpty,
+    TenantNotEmpty = 33,
 }
 
 impl ServiceFault {
@@ -31,12 +31,7 @@ impl ServiceFault {
     pub fn code(self) -> u16
         ensures { result ≡ code_of self }
     {
-        match self {
-            ServiceFault::NoStream => 30,
-            ServiceFault::StreamIsOpen => 31,
-            ServiceFault::BadTenantName => 32,
-            ServiceFault::TenantNotEmpty => 33,
-        }
+        self as u16
     }
 
     /// The answer that reports this fault.

@@ -1,7 +1,8 @@
 //! Why a frame was not read, or an answer not written.
 
 ghost use Rattle.std.specs.Prelude.{◌≡◌};
-ghost use Rattle.service_steps.specs.FrameFaults.{code_of, frame_fault};
+ghost use Rattle.service_steps.specs.FrameFaults.{code_of};
+ghost use Rattle.service_steps.specs.declared.frame_fault.FrameFault.TheVariants as fault;
 
 use byte_devices::{DeviceFault, FillFault};
 use std::alloc::AllocError;
@@ -12,16 +13,16 @@ use thiserror::Error;
 pub enum FrameFault {
     /// The kind of a frame is unknown, or its kind does not allow one of its lengths: 50.
     #[error("fault 50")]
-    BadFrame,
+    BadFrame = 50,
     /// The input ended inside a frame: 51.
     #[error("fault 51")]
-    CutOff,
+    CutOff = 51,
     /// A call of the reader or the writer failed, or 2^32 frames were read: 68.
     #[error("fault 68")]
-    Device,
+    Device = 68,
     /// Memory ran out: 90.
     #[error("fault 90")]
-    Memory,
+    Memory = 90,
 }
 
 impl FrameFault {
@@ -29,27 +30,22 @@ impl FrameFault {
     pub fn code(self) -> u16
         ensures { result ≡ code_of self }
     {
-        match self {
-            FrameFault::BadFrame => 50,
-            FrameFault::CutOff => 51,
-            FrameFault::Device => 68,
-            FrameFault::Memory => 90,
-        }
+        self as u16
     }
 }
 
 impl From<DeviceFault> for FrameFault {
-    ghost use Rattle.service_steps.specs.declared.frame_fault.FrameFault.TheVariants as fault;
+    ghost from_gives = { λ _ refused. refused ≡ fault.Device };
 
-    ghost from_gives = { λ _ failed. failed ≡ fault.Device };
-
-    fn from(_failed: DeviceFault) -> FrameFault {
+    fn from(_refused: DeviceFault) -> FrameFault {
         FrameFault::Device
     }
 }
 
 impl From<FillFault> for FrameFault {
-    ghost from_gives = { λ short fault. fault ≡ frame_fault short };
+    ghost use Rattle.service_steps.specs.FrameFaults.{frame_fault};
+
+    ghost from_gives = { λ short refused. refused ≡ frame_fault short };
 
     fn from(short: FillFault) -> FrameFault {
         match short {
@@ -60,8 +56,6 @@ impl From<FillFault> for FrameFault {
 }
 
 impl From<AllocError> for FrameFault {
-    ghost use Rattle.service_steps.specs.declared.frame_fault.FrameFault.TheVariants as fault;
-
     ghost from_gives = { λ _ refused. refused ≡ fault.Memory };
 
     fn from(_refused: AllocError) -> FrameFault {

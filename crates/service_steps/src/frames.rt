@@ -3,33 +3,59 @@
 //! Nothing is read ahead. When a frame is whole, no byte after it has been asked for. When a part
 //! of a frame is wrong, no byte after that part has been asked for.
 
-ghost use Rattle.std.specs.Prelude.{◌≡◌, ◌≤◌, length};
-ghost use Rattle.service_steps.specs.Frames.{tenant_limit, body_limit, framed, frame_of};
+ghost use Rattle.std.specs.Prelude.{◌≡◌, ◌≤◌, length, true, IfOk, IfSome};
+ghost use Rattle.service_steps.specs.FrameKinds.{Kinds};
+ghost use Rattle.service_steps.specs.Frames.{tenant_limit, body_limit, framed, framed_by, frame_of};
+ghost use Rattle.service_steps.specs.Reading.{ReadsFrame, ReadsKindBy, ReadsStep};
 ghost use Rattle.byte_devices.specs.Device.{device_of, seen};
-ghost use Rattle.service_steps.specs.Reading.{ReadsKind, ReadsStep};
 
 use crate::Step;
 use crate::frame_fault::FrameFault;
-use crate::kind::Kind;
+use crate::kind::{FrameKind, Kind};
 use crate::sized::{read_after_u16, read_after_u32};
 use byte_devices::{Counted, FillFault, fill};
 use std::alloc::Global;
 use std::io::Read;
 
 // The kind of the next frame; `None` if the input ends before it.
-fn read_kind<R: Read>(reader: &mut Counted<R>) -> Result<Option<Kind>, FrameFault>
-    ensures { ReadsKind (seen (R.remaining (device_of reader.old)) reader.old) result
+fn read_kind<R: Read, K: FrameKind>(reader: &mut Counted<R>) -> Result<Option<K>, FrameFault>
+    ensures { ReadsKindBy K.rules.kind_of (seen (R.remaining (device_of reader.old)) reader.old) result
         (seen (R.remaining (device_of reader.new)) reader.new) }
 {
     let mut byte = [0];
     match fill(reader, &mut byte) {
-        Ok(()) => match Kind::of(byte[0]) {
+        Ok(()) => match K::of(byte[0]) {
             Some(kind) => Ok(Some(kind)),
             None => Err(FrameFault::BadFrame),
         },
         Err(FillFault::Ended) => Ok(None),
         Err(FillFault::Failed) => Err(FrameFault::Device),
     }
+}
+
+/// Reads the name and the body of the next frame, and answers its kind.
+pub(crate) fn read_frame<R: Read, K: FrameKind>(
+    reader: &mut Counted<R>,
+    name: &mut Vec<u8>,
+    body: &mut Vec<u8>,
+) -> Result<Option<K>, FrameFault>
+    requires { Kinds K.rules }
+    ensures reads { ReadsFrame K.rules.wrong_at
+        (λ kind. framed_by K.rules.number kind name.new.items body.new.items)
+        (seen (R.remaining (device_of reader.old)) reader.old) result
+        (seen (R.remaining (device_of reader.new)) reader.new) }
+    ensures fits { IfOk result (λ o. IfSome o (λ k. (length name.new.items ≤ K.rules.names k)
+        × (length body.new.items ≤ K.rules.bodies k) × (K.rules.good k body.new.items ≡ true))) }
+{
+    let Some(kind) = read_kind::<R, K>(reader)? else {
+        return Ok(None);
+    };
+    read_after_u16(reader, kind.name_limit(), name)?;
+    read_after_u32(reader, kind.body_limit(), body)?;
+    if !kind.is_body(body) {
+        return Err(FrameFault::BadFrame);
+    }
+    Ok(Some(kind))
 }
 
 /// Reads frames, and reuses the memory of one frame for the next.
@@ -61,20 +87,11 @@ impl Frames {
         ensures { ReadsStep (seen (R.remaining (device_of reader.old)) reader.old) result
             (seen (R.remaining (device_of reader.new)) reader.new) }
     {
-        let kind = match read_kind(reader) {
-            Ok(Some(kind)) => kind,
-            Ok(None) => return Ok(None),
-            Err(fault) => return Err(fault),
-        };
-        match read_after_u16(reader, kind.tenant_limit(), &mut self.tenant) {
-            Ok(()) => {}
-            Err(fault) => return Err(fault),
+        match read_frame(reader, &mut self.tenant, &mut self.body) {
+            Ok(Some(kind)) => Ok(Some(step_of(kind, &self.tenant, &self.body))),
+            Ok(None) => Ok(None),
+            Err(fault) => Err(fault),
         }
-        match read_after_u32(reader, kind.body_limit(), &mut self.body) {
-            Ok(()) => {}
-            Err(fault) => return Err(fault),
-        }
-        Ok(Some(step_of(kind, &self.tenant, &self.body)))
     }
 }
 

@@ -1,7 +1,8 @@
 //! The kinds of frames, and how long their parts may be.
 
-ghost use Rattle.std.specs.Prelude.{◌≡◌};
-ghost use Rattle.service_steps.specs.Frames.{kind_of, tenant_limit, body_limit};
+ghost use Rattle.std.specs.Prelude.{◌≡◌, true};
+ghost use Rattle.service_steps.specs.{FrameKinds.{Rules, rules_of}, Frames.{wrong_at}};
+ghost use Rattle.service_steps.specs.Frames.{kind_of, kind_number, tenant_limit, body_limit};
 
 /// The kind of a frame.
 #[derive(Clone, Copy, Debug, PartialEq, Eq)]
@@ -21,11 +22,31 @@ pub enum Kind {
 /// The greatest length of a body in bytes: 16 MiB.
 pub const BODY_LIMIT: u32 = 16_777_216;
 
-impl Kind {
+/// The kinds of the frames of steps, or of requests.
+pub trait FrameKind: Copy {
+    ghost rules: { Rules Self };
+
     /// The kind with this number; `None` for an unknown kind.
-    pub fn of(byte: u8) -> Option<Kind>
-        ensures { result ≡ kind_of byte }
-    {
+    fn of(byte: u8) -> Option<Self>
+        ensures { result ≡ rules.kind_of byte };
+
+    /// The greatest length of the tenant's name in bytes.
+    fn name_limit(self) -> usize
+        ensures { result ≡ rules.names self };
+
+    /// The greatest length of the body in bytes.
+    fn body_limit(self) -> usize
+        ensures { result ≡ rules.bodies self };
+
+    /// Whether a body of this kind may be these bytes, if it may be as long.
+    fn is_body(self, body: &[u8]) -> bool
+        ensures { result ≡ rules.good self body.now };
+}
+
+impl FrameKind for Kind {
+    ghost rules = { rules_of wrong_at kind_of kind_number tenant_limit body_limit (λ _ _. true) };
+
+    fn of(byte: u8) -> Option<Kind> {
         match byte {
             1 => Some(Kind::Open),
             2 => Some(Kind::Feed),
@@ -36,24 +57,24 @@ impl Kind {
         }
     }
 
-    /// The greatest length of the tenant's name in bytes. A Restart names no tenant.
-    pub fn tenant_limit(self) -> usize
-        ensures { result ≡ tenant_limit self }
-    {
+    // A Restart names no tenant.
+    fn name_limit(self) -> usize {
         match self {
             Kind::Restart => 0,
             _ => u16::MAX as usize,
         }
     }
 
-    /// The greatest length of the body in bytes. Only Feed and Ask have a body.
-    pub fn body_limit(self) -> usize
-        ensures { result ≡ body_limit self }
-    {
+    // Only Feed and Ask have a body.
+    fn body_limit(self) -> usize {
         match self {
             Kind::Feed => BODY_LIMIT as usize,
             Kind::Ask => BODY_LIMIT as usize,
             _ => 0,
         }
+    }
+
+    fn is_body(self, _body: &[u8]) -> bool {
+        true
     }
 }

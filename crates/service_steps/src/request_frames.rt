@@ -4,34 +4,19 @@
 
 ghost use Rattle.std.specs.Prelude.{◌≡◌, ◌≤◌, length, true};
 ghost use Rattle.byte_devices.specs.Device.{device_of, seen};
-ghost use Rattle.service_steps.specs.Requests.{is_body, name_limit, request_framed, request_frame, request_limit, is_save_body, save_body, is_missing_body, is_entries_body};
+ghost use Rattle.service_steps.specs.Requests.{is_body, name_limit, request_framed, request_frame};
+ghost use Rattle.service_steps.specs.Requests.{request_limit, is_save_body, save_body};
+ghost use Rattle.service_steps.specs.Requests.{is_missing_body, is_entries_body};
+ghost use Rattle.service_steps.specs.RequestReading.{ReadsRequest};
 ghost use Rattle.service_steps.specs.declared.request_kind.RequestKind.TheVariants as of;
-ghost use Rattle.service_steps.specs.RequestReading.{ReadsRequest, ReadsRequestKind};
 
 use crate::frame_fault::FrameFault;
-use crate::frames::step_of;
+use crate::frames::{read_frame, step_of};
 use crate::request::{Request, SavedAs};
 use crate::request_kind::RequestKind;
-use crate::sized::{read_after_u16, read_after_u32};
-use byte_devices::{Counted, FillFault, fill};
+use byte_devices::Counted;
 use std::alloc::Global;
 use std::io::Read;
-
-// The kind of the next frame; `None` if the input ends before it.
-fn read_kind<R: Read>(reader: &mut Counted<R>) -> Result<Option<RequestKind>, FrameFault>
-    ensures { ReadsRequestKind (seen (R.remaining (device_of reader.old)) reader.old) result
-        (seen (R.remaining (device_of reader.new)) reader.new) }
-{
-    let mut byte = [0];
-    match fill(reader, &mut byte) {
-        Ok(()) => match RequestKind::of(byte[0]) {
-            Some(kind) => Ok(Some(kind)),
-            None => Err(FrameFault::BadFrame),
-        },
-        Err(FillFault::Ended) => Ok(None),
-        Err(FillFault::Failed) => Err(FrameFault::Device),
-    }
-}
 
 /// Reads frames of requests, and reuses the memory of one frame for the next.
 #[derive(Drop)]
@@ -67,23 +52,11 @@ impl RequestFrames {
         ensures { ReadsRequest (seen (R.remaining (device_of reader.old)) reader.old) result
             (seen (R.remaining (device_of reader.new)) reader.new) }
     {
-        let kind = match read_kind(reader) {
-            Ok(Some(kind)) => kind,
-            Ok(None) => return Ok(None),
-            Err(fault) => return Err(fault),
-        };
-        match read_after_u16(reader, kind.name_limit(), &mut self.name) {
-            Ok(()) => {}
-            Err(fault) => return Err(fault),
+        match read_frame(reader, &mut self.name, &mut self.body) {
+            Ok(Some(kind)) => Ok(Some(request_of(kind, &self.name, &self.body))),
+            Ok(None) => Ok(None),
+            Err(fault) => Err(fault),
         }
-        match read_after_u32(reader, kind.body_limit(), &mut self.body) {
-            Ok(()) => {}
-            Err(fault) => return Err(fault),
-        }
-        if !kind.is_body(&self.body) {
-            return Err(FrameFault::BadFrame);
-        }
-        Ok(Some(request_of(kind, &self.name, &self.body)))
     }
 }
 

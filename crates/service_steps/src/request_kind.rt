@@ -1,9 +1,12 @@
 //! The kinds of the frames of requests, and what their parts may be.
 
 ghost use Rattle.std.specs.Prelude.{◌≡◌};
-ghost use Rattle.service_steps.specs.Requests.{request_kind_of, name_limit, request_limit, is_body, is_save_body, is_missing_body, is_entries_body};
+ghost use Rattle.service_steps.specs.FrameKinds.{rules_of};
+ghost use Rattle.service_steps.specs.Requests.{request_kind_of, request_number, name_limit};
+ghost use Rattle.service_steps.specs.Requests.{request_limit, is_body, is_save_body};
+ghost use Rattle.service_steps.specs.Requests.{is_missing_body, is_entries_body, wrong_request_at};
 
-use crate::kind::{BODY_LIMIT, Kind};
+use crate::kind::{BODY_LIMIT, FrameKind, Kind};
 
 /// The kind of the frame of a request.
 #[derive(Clone, Copy, Debug, PartialEq, Eq)]
@@ -64,11 +67,10 @@ fn is_entries_body(body: &[u8]) -> bool
     }
 }
 
-impl RequestKind {
-    /// The kind with this number; `None` for an unknown kind.
-    pub fn of(byte: u8) -> Option<RequestKind>
-        ensures { result ≡ request_kind_of byte }
-    {
+impl FrameKind for RequestKind {
+    ghost rules = { rules_of wrong_request_at request_kind_of request_number name_limit request_limit is_body };
+
+    fn of(byte: u8) -> Option<RequestKind> {
         match byte {
             1 => Some(RequestKind::Step(Kind::Open)),
             2 => Some(RequestKind::Step(Kind::Feed)),
@@ -87,23 +89,18 @@ impl RequestKind {
         }
     }
 
-    /// The greatest length of the name in bytes. A Restart, a Save and a Sizes name no tenant.
-    pub fn name_limit(self) -> usize
-        ensures { result ≡ name_limit self }
-    {
+    // A Restart, a Save and a Sizes name no tenant.
+    fn name_limit(self) -> usize {
         match self {
-            RequestKind::Step(kind) => kind.tenant_limit(),
+            RequestKind::Step(kind) => kind.name_limit(),
             RequestKind::Save => 0,
             RequestKind::Sizes => 0,
             _ => u16::MAX as usize,
         }
     }
 
-    /// The greatest length of the body in bytes. Only a Feed, an Ask, a Copy, a Save, a Missing and
-    /// an Entries have a body.
-    pub fn body_limit(self) -> usize
-        ensures { result ≡ request_limit self }
-    {
+    // Only a Feed, an Ask, a Copy, a Save, a Missing and an Entries have a body.
+    fn body_limit(self) -> usize {
         match self {
             RequestKind::Step(kind) => kind.body_limit(),
             RequestKind::Save => 1,
@@ -114,12 +111,9 @@ impl RequestKind {
         }
     }
 
-    /// Whether a body of this kind may be these bytes, if it may be as long. The body of a Save is
-    /// empty or the byte 01. A Missing has a count in four bytes, and at least as many names of 20
-    /// bytes; an Entries a limit in eight bytes, and names.
-    pub fn is_body(self, body: &[u8]) -> bool
-        ensures { result ≡ is_body self body.now }
-    {
+    // The body of a Save is empty or the byte 01. A Missing has a count in four bytes, and at least
+    // as many names of 20 bytes; an Entries a limit in eight bytes, and names.
+    fn is_body(self, body: &[u8]) -> bool {
         match self {
             RequestKind::Save => is_save_body(body),
             RequestKind::Missing => is_missing_body(body),

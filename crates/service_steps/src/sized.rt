@@ -1,6 +1,5 @@
 //! Bytes that follow their length.
 
-ghost use Rattle.std.specs.Prelude.{◌≡◌};
 ghost use Rattle.std.specs.Int.{w16, w32};
 ghost use Rattle.byte_devices.specs.Device.{device_of, seen};
 ghost use Rattle.service_steps.specs.Reading.{ReadsNumber, ReadsRoom, ReadsSized};

@@ -50,27 +50,9 @@ fn join_parts(frame: &mut [u8; SHORT], head: &[u8; HEAD], reply: &[u8]) -> usize
     size
 }
 
-// Writes a short frame by one call, so that its reader need not wait twice.
-fn write_short<W: Write>(
-    writer: &mut Counted<W>,
-    head: &[u8; HEAD],
-    reply: &[u8],
-) -> Result<(), DeviceFault>
-    requires { length reply.now ≤ 1007 }
-    ensures written { OnOk result (Appends (W.contents (device_of writer.old))
-        (W.contents (device_of writer.new)) (head.now ++ reply.now)) }
-    ensures well { OnOk result (faults_of writer.new ≡ faults_of writer.old) }
-    ensures front { OnErr result (AppendsFront (W.contents (device_of writer.old))
-        (W.contents (device_of writer.new)) (head.now ++ reply.now)) }
-    ensures cause { OnErr result (HasFault (faults_of writer.old) (faults_of writer.new)) }
-{
-    let mut frame = [0; SHORT];
-    let size = join_parts(&mut frame, head, reply);
-    write_all(writer, &frame[..size])
-}
-
-// Writes a long frame by a call for each part.
-fn write_long<W: Write>(
+// Writes a short frame by one call, so that its reader need not wait twice, and a long one by a call
+// for each part.
+fn write_parts<W: Write>(
     writer: &mut Counted<W>,
     head: &[u8; HEAD],
     reply: &[u8],
@@ -82,8 +64,14 @@ fn write_long<W: Write>(
         (W.contents (device_of writer.new)) (head.now ++ reply.now)) }
     ensures cause { OnErr result (HasFault (faults_of writer.old) (faults_of writer.new)) }
 {
-    write_all(writer, head)?;
-    write_all(writer, reply)
+    if reply.len() > SHORT - HEAD {
+        write_all(writer, head)?;
+        write_all(writer, reply)
+    } else {
+        let mut frame = [0; SHORT];
+        let size = join_parts(&mut frame, head, reply);
+        write_all(writer, &frame[..size])
+    }
 }
 
 /// Writes an answer and the bytes of its reply as one frame. Takes no memory.
@@ -103,9 +91,5 @@ pub fn write_answer<W: Write>(
     ensures cause { OnErr result (HasFault (faults_of writer.old) (faults_of writer.new)) }
 {
     let head = answer_head(answer, reply.len() as u64);
-    if reply.len() <= SHORT - HEAD {
-        write_short(writer, &head, reply)
-    } else {
-        write_long(writer, &head, reply)
-    }
+    write_parts(writer, &head, reply)
 }

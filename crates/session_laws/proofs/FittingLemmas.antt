@@ -169,6 +169,8 @@ moves_if _ (part.Header header_line.Mark) = (refl, refl, refl)
 moves_if _ (part.CommitIsh commit_ish_line.From) = (refl, refl, refl)
 moves_if _ (part.Change change_line.Modify) = (refl, refl, refl)
 moves_if _ (part.Reply reply_line.CatBlob) = (refl, refl, refl)
+moves_if _ (part.Opening opening_line.Blob) = (refl, refl, refl)
+moves_if _ (part.Control control_line.Done) = (refl, refl, refl)
 moves_if _ _ = (refl, refl, refl)
 
 moves : (at : Stage) (taken : Part) (left : List Term) → fit taken (terms_of at) ≡ Stands left

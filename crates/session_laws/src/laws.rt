@@ -2,20 +2,17 @@
 //! nothing.
 
 ghost use Rattle.std.specs.Prelude.{◌≡◌, ◌≢◌, List, [], ℕ, Ok, Err};
-ghost use Rattle.git_model.specs.RefStore.{no_refs};
-ghost use Rattle.git_model.specs.Repository.{Repository};
+ghost use Rattle.git_model.specs.{RefStore.{no_refs}, Repository.{Repository}};
 ghost use Rattle.git_names.specs.Naming.{AnswersNames};
+ghost use Rattle.stream_grammar.specs.{Acts.{Act}, Commands.{Done, done_by}};
+ghost use Rattle.stream_commands.specs.Workspace.{Workspace, Effect, opened};
+ghost use Rattle.import_session.specs.Stream.{Running, Step, begun, step, session_end};
+ghost use Rattle.import_session.specs.{Stream.{last_checkpoint}, Commits.{closed_where}};
+ghost use Rattle.import_session.specs.{Meaning.{after_act}, Sound.{IsSound, IsSoundRepository}};
+ghost use Rattle.session_laws.specs.Fitting.{Fits, IsInStep};
 ghost use Rattle.stream_lex.specs.Items as items;
 ghost use Rattle.stream_grammar.specs.declared.fault.Fault.TheVariants as text_fault;
-ghost use Rattle.stream_grammar.specs.Acts.{Act};
-ghost use Rattle.stream_grammar.specs.Commands.{Done, done_by};
 ghost use Rattle.stream_parts.specs.declared.fault.Fault.TheVariants as fault;
-ghost use Rattle.stream_commands.specs.Workspace.{Workspace, Effect, opened};
-ghost use Rattle.import_session.specs.Stream.{Running, Step, begun, step, session_end, last_checkpoint};
-ghost use Rattle.import_session.specs.Commits.{closed_where};
-ghost use Rattle.session_laws.specs.Fitting.{Fits, IsInStep};
-ghost use Rattle.import_session.specs.Meaning.{after_act};
-ghost use Rattle.import_session.specs.Sound.{IsSound, IsSoundRepository};
 
 /// A stream may open on a repository with no objects and no refs.
 pub fn an_empty_repository_is_sound()

@@ -2,8 +2,7 @@
 
 ghost use Rattle.std.specs.Prelude.{◌≡◌, ℕ, true, IfOk};
 ghost use Rattle.content_pool.specs.Pool.{holds};
-ghost use Rattle.tenant_tables.specs.View.{held};
-ghost use Rattle.tenant_tables.specs.IsBackedBy.{IsBackedBy};
+ghost use Rattle.tenant_tables.specs.{View.{held}, IsBackedBy.{IsBackedBy}};
 ghost use Rattle.stream_commands.specs.Held.{FilesStand};
 
 use content_pool::Pool;

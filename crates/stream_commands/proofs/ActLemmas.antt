@@ -1,5 +1,5 @@
 -- What a refusal, one act after another, a printed line and a stored blob leave of a workspace.
-use Rattle.std.proofs.Common.{◌≡◌, ◌≢◌, ◌⊎◌, inl, inr, ℕ, List, Result, Ok, Err, refl, ◌∙◌, append_assoc, codes, Option, rules}
+use Rattle.std.proofs.Common.{◌≡◌, ◌≢◌, ℕ, List, Result, Ok, Err, refl, ◌∙◌, append_assoc, codes, Option, rules}
 use Rattle.stream_parts.specs.declared.fault.Fault.{Fault}
 use Rattle.stream_parts.specs.declared.fault.Fault.TheVariants as fault
 use Rattle.git_model.specs.declared.kind.Kind.TheVariants as kind
@@ -21,17 +21,15 @@ use Rattle.stream_commands.proofs.HeldLemmas.{command_same}
 
 -- ---- what is refused
 
-pub memory_or : (f : Fault) → (f ≡ fault.Memory) ⊎ (f ≢ fault.Memory)
-memory_or fault.Memory = inl refl
-memory_or f = inr (λ is. cc)
+-- where there is an answer, only `Memory` may be refused in its place
+pub is_memory : {A : Type 0} (answer : A) (f : Fault)
+    → (f ≢ fault.Memory → ◌≡◌ {A = Result A Fault} (Ok answer) (Err f)) → f ≡ fault.Memory
+is_memory answer fault.Memory refused = refl
+is_memory answer f refused = let never = refused (λ is. cc) in cc
 
 pub carries_refused : (r : Result Effect Fault) (new : Workspace) (out out' : List ℕ) (f : Fault)
     → (f ≢ fault.Memory → r ≡ Err f) → CarriesOut r new out out' (Err f)
-carries_refused (Ok effect) new out out' f refused = by_memory (memory_or f)
-  where
-    by_memory : (f ≡ fault.Memory) ⊎ (f ≢ fault.Memory) → f ≡ fault.Memory
-    by_memory (inl memory) = memory
-    by_memory (inr other) = let never = refused other in cc
+carries_refused (Ok effect) new out out' f refused = is_memory effect f refused
 carries_refused (Err refusal) new out out' f refused = λ other. let is = refused other in cc
 
 -- ---- what comes first, and what comes after it

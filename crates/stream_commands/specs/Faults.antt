@@ -1,5 +1,6 @@
 -- The faults of the open commit, as faults of the stream.
-use Rattle.std.specs.Prelude.{Result, Ok, Err}
+use Rattle.std.specs.Prelude.{Result}
+use Rattle.git_model.specs.Results.{refused_as}
 use Rattle.open_commits.specs.declared.fault.Fault.{Fault as CommitFault}
 use Rattle.open_commits.specs.declared.fault.Fault.TheVariants as commit_fault
 use Rattle.stream_parts.specs.declared.fault.Fault.{Fault}
@@ -17,5 +18,4 @@ changing_fault commit_fault.Limit = fault.Limit
 changing_fault commit_fault.Memory = fault.Memory
 
 abbrev pub changed_or : {A : Type 0} → Result A CommitFault → Result A Fault
-changed_or (Ok value) = Ok value
-changed_or (Err e) = Err (changing_fault e)
+changed_or changed = refused_as changing_fault changed

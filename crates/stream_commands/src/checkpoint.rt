@@ -3,12 +3,12 @@
 ghost use Rattle.std.specs.Prelude.{◌≡◌, ◌++◌, ℕ, IfOk, IfErr, OnOk, OnErr};
 ghost use Rattle.git_model.specs.GoodRepository.{AreObjects};
 ghost use Rattle.tenant_refs.specs.Changes.{with_changes};
-ghost use Rattle.tenant_tables.specs.Objects.{objects};
-ghost use Rattle.tenant_tables.specs.IsBackedBy.{IsBackedBy};
+ghost use Rattle.tenant_tables.specs.{Objects.{objects}, IsBackedBy.{IsBackedBy}};
 ghost use Rattle.stream_parts.specs.Checkpoints.{by_tags};
-ghost use Rattle.stream_commands.specs.Checkpoints.{by_branches, checkpoint, kept_by, kept_lines, moves, saved_by};
-ghost use Rattle.stream_commands.specs.Held.{KeepsBranchFiles};
-ghost use Rattle.stream_commands.specs.State.{state_shown, workspace_in, workspace_over, CarriesOut};
+ghost use Rattle.stream_commands.specs.Checkpoints.{by_branches, checkpoint, kept_by, kept_lines};
+ghost use Rattle.stream_commands.specs.{Checkpoints.{moves, saved_by}, Held.{KeepsBranchFiles}};
+ghost use Rattle.stream_commands.specs.State.{state_shown, workspace_in, workspace_over};
+ghost use Rattle.stream_commands.specs.State.{CarriesOut};
 
 use crate::state::StreamState;
 use commit_walk::Ancestry;

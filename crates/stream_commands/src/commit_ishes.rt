@@ -4,14 +4,11 @@
 //! as last saved. Nothing here changes them. The state keeps the commits of a walk for the next one.
 
 ghost use Rattle.std.specs.Prelude.{◌≡◌, List, ℕ};
-ghost use Rattle.git_model.specs.GoodRepository.{AreObjects};
-ghost use Rattle.git_model.specs.Repository.{Object};
-ghost use Rattle.stream_grammar.specs.Names.{Expression};
-ghost use Rattle.stream_grammar.specs.Shown.{commit_shown};
+ghost use Rattle.git_model.specs.{GoodRepository.{AreObjects}, Repository.{Object}};
+ghost use Rattle.stream_grammar.specs.{Names.{Expression}, Shown.{commit_shown}};
 ghost use Rattle.stream_parts.specs.Faults.{Gives};
 ghost use Rattle.stream_commands.specs.CommitIshes.{commit_in, is_branch, named_in, start_in};
-ghost use Rattle.stream_commands.specs.Held.{ChainStands};
-ghost use Rattle.stream_commands.specs.State.{state_shown, workspace_over};
+ghost use Rattle.stream_commands.specs.{Held.{ChainStands}, State.{state_shown, workspace_over}};
 
 use crate::state::StreamState;
 use git_objects::{Kind, Name, Naming};

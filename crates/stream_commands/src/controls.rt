@@ -3,9 +3,7 @@
 ghost use Rattle.std.specs.Prelude.{◌≡◌, List, ℕ, OnErr};
 ghost use Rattle.content_pool.specs.Pool.{Cells};
 ghost use Rattle.git_model.specs.GoodRepository.{AreObjects};
-ghost use Rattle.tenant_tables.specs.Objects.{objects};
-ghost use Rattle.tenant_tables.specs.IsBackedBy.{IsBackedBy};
-ghost use Rattle.tenant_tables.specs.View.{View};
+ghost use Rattle.tenant_tables.specs.{Objects.{objects}, IsBackedBy.{IsBackedBy}, View.{View}};
 ghost use Rattle.stream_commands.specs.Controls.{controlled, feature_set, head_set};
 ghost use Rattle.stream_commands.specs.Held.{KeepsBranchFiles};
 ghost use Rattle.stream_commands.specs.State.{state_shown, workspace_in, CarriesOut};

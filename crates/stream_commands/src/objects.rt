@@ -1,18 +1,15 @@
 //! Blobs and tags: git-fast-import(1), "blob" and "tag".
 
 ghost use Rattle.std.specs.Prelude.{OnErr, OnOk, List, ℕ};
-ghost use Rattle.git_model.specs.GoodRepository.{AreObjects};
-ghost use Rattle.git_model.specs.RefStore.{RefStore};
+ghost use Rattle.git_model.specs.{GoodRepository.{AreObjects}, RefStore.{RefStore}};
 ghost use Rattle.content_pool.specs.Pool.{Cells, HasHoldsLeft};
-ghost use Rattle.tenant_tables.specs.Objects.{objects};
-ghost use Rattle.tenant_tables.specs.View.{View};
-ghost use Rattle.tenant_tables.specs.IsBackedBy.{IsBackedBy};
+ghost use Rattle.tenant_tables.specs.{Objects.{objects}, View.{View}, IsBackedBy.{IsBackedBy}};
 ghost use Rattle.stream_grammar.specs.Acts.{Blob, BeginTag, TagTarget, Tagger};
 ghost use Rattle.stream_grammar.specs.Shown.{commit_shown, object_shown};
-ghost use Rattle.stream_commands.specs.Objects.{object_stored};
-ghost use Rattle.stream_commands.specs.Lent.{IsUnchanged, Keeps};
+ghost use Rattle.stream_commands.specs.{Objects.{object_stored}, Lent.{IsUnchanged, Keeps}};
 ghost use Rattle.stream_commands.specs.Held.{FilesStand, KeepsBranchFiles};
-ghost use Rattle.stream_commands.specs.State.{marked, state_shown, workspace_in, CarriesOut, StreamState as StreamStateShown};
+ghost use Rattle.stream_commands.specs.State.{marked, state_shown, workspace_in, CarriesOut};
+ghost use Rattle.stream_commands.specs.State.{StreamState as StreamStateShown};
 
 use crate::open_command::{OpenCommand, not_open};
 use crate::state::StreamState;

@@ -1,9 +1,9 @@
 //! The open command: git-fast-import(1), "commit", "tag" and "reset".
 
 ghost use Rattle.std.specs.Prelude.{◌≡◌, Err, MatchResult};
-ghost use Rattle.stream_grammar.specs.declared.fault.Fault.TheVariants as text_fault;
 ghost use Rattle.stream_parts.specs.OpenCommand.{changes_in};
 ghost use Rattle.stream_commands.specs.State.{command_shown};
+ghost use Rattle.stream_grammar.specs.declared.fault.Fault.TheVariants as text_fault;
 
 use open_commits::OpenCommit;
 use std::mem;

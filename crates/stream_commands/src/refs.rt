@@ -1,8 +1,7 @@
 //! Resets and aliases: git-fast-import(1), "reset" and "alias".
 
 ghost use Rattle.std.specs.Prelude.{◌≡◌, List, ℕ, OnOk};
-ghost use Rattle.git_model.specs.GoodRepository.{AreObjects};
-ghost use Rattle.git_model.specs.Repository.{Object};
+ghost use Rattle.git_model.specs.{GoodRepository.{AreObjects}, Repository.{Object}};
 ghost use Rattle.stream_grammar.specs.Acts.{Reset, ResetFrom, Alias};
 ghost use Rattle.stream_grammar.specs.Shown.{commit_shown, ref_command_shown};
 ghost use Rattle.stream_parts.specs.Faults.{Gives};

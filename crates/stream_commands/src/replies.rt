@@ -1,17 +1,13 @@
 //! What is printed: git-fast-import(1), "get-mark", "cat-blob", "ls" and "progress".
 
 ghost use Rattle.std.specs.Prelude.{◌≡◌, OnErr, OnOk};
-ghost use Rattle.git_model.specs.GoodRepository.{AreObjects};
-ghost use Rattle.git_model.specs.RefStore.{RefStore};
-ghost use Rattle.tenant_tables.specs.Objects.{objects};
-ghost use Rattle.tenant_tables.specs.Room.{HasHoldsLeftBeside};
+ghost use Rattle.git_model.specs.{GoodRepository.{AreObjects}, RefStore.{RefStore}};
+ghost use Rattle.tenant_tables.specs.{Objects.{objects}, Room.{HasHoldsLeftBeside}};
 ghost use Rattle.tenant_tables.specs.IsBackedBy.{IsBackedBy};
-ghost use Rattle.stream_grammar.specs.Acts.{LsInCommit};
-ghost use Rattle.stream_grammar.specs.Shown.{reply_shown};
-ghost use Rattle.stream_commands.specs.Replies.{replied};
-ghost use Rattle.stream_commands.specs.Lent.{Keeps};
-ghost use Rattle.stream_commands.specs.Held.{FilesStand};
-ghost use Rattle.stream_commands.specs.State.{state_shown, workspace_in, CarriesOut, KeepsCommitted};
+ghost use Rattle.stream_grammar.specs.{Acts.{LsInCommit}, Shown.{reply_shown}};
+ghost use Rattle.stream_commands.specs.{Replies.{replied}, Lent.{Keeps}, Held.{FilesStand}};
+ghost use Rattle.stream_commands.specs.State.{state_shown, workspace_in, CarriesOut};
+ghost use Rattle.stream_commands.specs.State.{KeepsCommitted};
 
 use crate::fault::fault_of;
 use crate::open_command::{OpenCommand, not_open};

@@ -1,18 +1,14 @@
 //! How a tag is stored: git-fast-import(1), "tag".
 
-ghost use Rattle.std.specs.Prelude.{◌≡◌, ◌<◌, length, List, ℕ, OnOk, OnErr};
-ghost use Rattle.std.specs.Vec.{vec_capacity};
+ghost use Rattle.std.specs.{Prelude.{◌≡◌, ◌<◌, length, List, ℕ, OnOk, OnErr}, Vec.{vec_capacity}};
 ghost use Rattle.git_model.specs.GoodRepository.{AreObjects};
 ghost use Rattle.content_pool.specs.Pool.{HasHoldsLeft};
-ghost use Rattle.tenant_tables.specs.Objects.{objects};
-ghost use Rattle.tenant_tables.specs.IsBackedBy.{IsBackedBy};
+ghost use Rattle.tenant_tables.specs.{Objects.{objects}, IsBackedBy.{IsBackedBy}};
 ghost use Rattle.stream_grammar.specs.Acts.{Tag};
 ghost use Rattle.stream_parts.specs.Faults.{Gives};
-ghost use Rattle.stream_commands.specs.Objects.{object_stored};
-ghost use Rattle.stream_commands.specs.Tags.{tagged};
-ghost use Rattle.stream_commands.specs.Lent.{IsUnchanged, Keeps};
-ghost use Rattle.stream_commands.specs.Held.{ChainStands, FilesStand};
-ghost use Rattle.stream_commands.specs.State.{state_shown, workspace_in, workspace_over, CarriesOut};
+ghost use Rattle.stream_commands.specs.{Objects.{object_stored}, Tags.{tagged}, State.{CarriesOut}};
+ghost use Rattle.stream_commands.specs.{Lent.{IsUnchanged, Keeps}, Held.{ChainStands, FilesStand}};
+ghost use Rattle.stream_commands.specs.State.{state_shown, workspace_in, workspace_over};
 
 use crate::commit_ishes::named;
 use crate::open_command::{OpenCommand, not_open};

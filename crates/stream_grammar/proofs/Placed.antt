@@ -5,6 +5,10 @@ use Rattle.stream_grammar.specs.declared.part.Part.{Part}
 use Rattle.stream_grammar.specs.declared.part.Part.TheVariants as part
 use Rattle.stream_grammar.specs.declared.part.OpeningLine.{OpeningLine}
 use Rattle.stream_grammar.specs.declared.part.OpeningLine.TheVariants as opening
+use Rattle.stream_grammar.specs.declared.part.ReplyLine.{ReplyLine}
+use Rattle.stream_grammar.specs.declared.part.ReplyLine.TheVariants as reply
+use Rattle.stream_grammar.specs.declared.part.ControlLine.{ControlLine}
+use Rattle.stream_grammar.specs.declared.part.ControlLine.TheVariants as control
 use Rattle.stream_grammar.specs.declared.part.ChangeLine.TheVariants as change
 use Rattle.stream_grammar.specs.Parts.{same}
 use Rattle.stream_grammar.specs.Grammar.{Term, Fit, Stands, Ends, Misses, production, production_of, accepts, is_free, left_after, used, fit, may_end}
@@ -174,6 +178,18 @@ no_terms terms is = let whole : [] ≡ terms = cc in sym whole
 no_command : (terms : List Term) → None ≡ Some terms → ⊥
 no_command terms is = cc
 
+reply_without_data : (line : ReplyLine) → same (part.Reply line) (part.Change change.ModifyInline) ≡ false
+reply_without_data reply.Progress = refl
+reply_without_data reply.GetMark = refl
+reply_without_data reply.CatBlob = refl
+reply_without_data reply.Ls = refl
+
+control_without_data : (line : ControlLine) → same (part.Control line) (part.Change change.ModifyInline) ≡ false
+control_without_data control.Checkpoint = refl
+control_without_data control.Done = refl
+control_without_data control.Feature = refl
+control_without_data control.OptionCommand = refl
+
 alone : (command : Part) (terms before left : List Term) → production_of command ≡ Some terms
     → NoneBegins before → fit command before ≡ Stands left → IsAlone command terms
 unfolding IsAlone
@@ -187,8 +203,8 @@ alone (part.Opening opening.Reset) terms before left is none stands =
     absurd (nowhere (part.Opening opening.Reset) before left none.3 stands)
 alone (part.Opening opening.Alias) terms before left is none stands =
     absurd (nowhere (part.Opening opening.Alias) before left none.4 stands)
-alone (part.Reply line) terms before left is none stands = (no_terms terms is, refl)
-alone (part.Control line) terms before left is none stands = (no_terms terms is, refl)
+alone (part.Reply line) terms before left is none stands = (no_terms terms is, reply_without_data line)
+alone (part.Control line) terms before left is none stands = (no_terms terms is, control_without_data line)
 alone part.Blank terms before left is none stands = (no_terms terms is, refl)
 alone _ terms before left is none stands = absurd (no_command terms is)
 

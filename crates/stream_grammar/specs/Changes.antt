@@ -4,6 +4,7 @@ use Rattle.std.specs.List.{list_all}
 use Rattle.std.specs.Str.{bytes_eq}
 use Rattle.git_model.specs.declared.file_mode.FileMode.{FileMode}
 use Rattle.git_model.specs.declared.file_mode.FileMode.TheVariants as mode
+use Rattle.git_model.specs.Results.{refused_as}
 use Rattle.git_paths.specs.declared.fault.Fault.{Fault as PathFault}
 use Rattle.git_paths.specs.declared.fault.Fault.TheVariants as path_fault
 use Rattle.git_paths.specs.declared.place.Place.TheVariants.{Source, Last}
@@ -41,8 +42,7 @@ fault_of_path path_fault.Limit = fault.Limit
 fault_of_path path_fault.Memory = fault.Memory
 
 abbrev pub path_read : {A : Type 0} → Result A PathFault → Result A Fault
-path_read (Ok found) = Ok found
-path_read (Err e) = Err (fault_of_path e)
+path_read found = refused_as fault_of_path found
 
 -- The path that is the rest of a line: <path>
 abbrev pub last_path : List ℕ → Result Path Fault

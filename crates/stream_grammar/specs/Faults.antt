@@ -1,5 +1,5 @@
 -- The numbers of the faults, for replies and exit statuses; and how a fault is answered.
-use Rattle.std.specs.Prelude.{◌≡◌, ◌≢◌, ℕ, Result, Ok, Err}
+use Rattle.std.specs.Prelude.{ℕ, Result}
 use Rattle.git_model.specs.Results.{GivesOr}
 use Rattle.stream_grammar.specs.declared.fault.Fault.{Fault}
 use Rattle.stream_grammar.specs.declared.fault.Fault.TheVariants as fault

@@ -1,21 +1,15 @@
 -- Parts: the kind of an item, by its first word, and of an `M` line by its third word too; by the
 -- commands of git-fast-import(1).
-use Rattle.std.specs.Prelude.{ℕ, Bool, true, false, ◌&&◌, nat_eq, if◌then◌else◌, List, [], ◌∷◌, ◌++◌, codes}
+use Rattle.std.specs.Prelude.{ℕ, Bool, true, false, nat_eq, if◌then◌else◌, List, [], ◌∷◌, ◌++◌, codes}
 use Rattle.std.specs.List.{starts_with, ends_with}
 use Rattle.std.specs.Str.{bytes_eq}
 use Rattle.stream_lex.specs.Items.{Item, Line, Data, Blank}
 use Rattle.stream_grammar.specs.Texts.{argument, first_word}
-use Rattle.stream_grammar.specs.declared.part.OpeningLine.{OpeningLine}
 use Rattle.stream_grammar.specs.declared.part.OpeningLine.TheVariants as opening
-use Rattle.stream_grammar.specs.declared.part.ReplyLine.{ReplyLine}
 use Rattle.stream_grammar.specs.declared.part.ReplyLine.TheVariants as reply
-use Rattle.stream_grammar.specs.declared.part.ControlLine.{ControlLine}
 use Rattle.stream_grammar.specs.declared.part.ControlLine.TheVariants as control
-use Rattle.stream_grammar.specs.declared.part.HeaderLine.{HeaderLine}
 use Rattle.stream_grammar.specs.declared.part.HeaderLine.TheVariants as header
-use Rattle.stream_grammar.specs.declared.part.CommitIshLine.{CommitIshLine}
 use Rattle.stream_grammar.specs.declared.part.CommitIshLine.TheVariants as commit_ish
-use Rattle.stream_grammar.specs.declared.part.ChangeLine.{ChangeLine}
 use Rattle.stream_grammar.specs.declared.part.ChangeLine.TheVariants as change
 use Rattle.stream_grammar.specs.declared.part.Part.{Part}
 use Rattle.stream_grammar.specs.declared.part.Part.TheVariants as part
@@ -118,69 +112,40 @@ is_early (part.Control control.OptionCommand) = true
 is_early part.Blank = true
 is_early _ = false
 
--- The place of a line among those of its kind.
-abbrev pub opening_index : OpeningLine → ℕ
-opening_index opening.Blob = 0
-opening_index opening.Commit = 1
-opening_index opening.Tag = 2
-opening_index opening.Reset = 3
-opening_index opening.Alias = 4
+-- The place of a part among all parts.
+abbrev pub place_of : Part → ℕ
+place_of (part.Opening opening.Blob) = 0
+place_of (part.Opening opening.Commit) = 1
+place_of (part.Opening opening.Tag) = 2
+place_of (part.Opening opening.Reset) = 3
+place_of (part.Opening opening.Alias) = 4
+place_of (part.Reply reply.Progress) = 5
+place_of (part.Reply reply.GetMark) = 6
+place_of (part.Reply reply.CatBlob) = 7
+place_of (part.Reply reply.Ls) = 8
+place_of (part.Control control.Checkpoint) = 9
+place_of (part.Control control.Done) = 10
+place_of (part.Control control.Feature) = 11
+place_of (part.Control control.OptionCommand) = 12
+place_of (part.Header header.Mark) = 13
+place_of (part.Header header.OriginalOid) = 14
+place_of (part.Header header.Author) = 15
+place_of (part.Header header.Committer) = 16
+place_of (part.Header header.Encoding) = 17
+place_of (part.Header header.Tagger) = 18
+place_of (part.CommitIsh commit_ish.From) = 19
+place_of (part.CommitIsh commit_ish.Merge) = 20
+place_of (part.CommitIsh commit_ish.To) = 21
+place_of (part.Change change.Modify) = 22
+place_of (part.Change change.ModifyInline) = 23
+place_of (part.Change change.Delete) = 24
+place_of (part.Change change.Copy) = 25
+place_of (part.Change change.Rename) = 26
+place_of (part.Change change.DeleteAll) = 27
+place_of part.Data = 28
+place_of part.Blank = 29
+place_of part.Unknown = 30
 
-abbrev pub reply_index : ReplyLine → ℕ
-reply_index reply.Progress = 0
-reply_index reply.GetMark = 1
-reply_index reply.CatBlob = 2
-reply_index reply.Ls = 3
-
-abbrev pub control_index : ControlLine → ℕ
-control_index control.Checkpoint = 0
-control_index control.Done = 1
-control_index control.Feature = 2
-control_index control.OptionCommand = 3
-
-abbrev pub header_index : HeaderLine → ℕ
-header_index header.Mark = 0
-header_index header.OriginalOid = 1
-header_index header.Author = 2
-header_index header.Committer = 3
-header_index header.Encoding = 4
-header_index header.Tagger = 5
-
-abbrev pub commit_ish_index : CommitIshLine → ℕ
-commit_ish_index commit_ish.From = 0
-commit_ish_index commit_ish.Merge = 1
-commit_ish_index commit_ish.To = 2
-
-abbrev pub change_index : ChangeLine → ℕ
-change_index change.Modify = 0
-change_index change.ModifyInline = 1
-change_index change.Delete = 2
-change_index change.Copy = 3
-change_index change.Rename = 4
-change_index change.DeleteAll = 5
-
--- The place of a part among those of its kind.
-abbrev pub index_of : Part → ℕ
-index_of (part.Opening line) = opening_index line
-index_of (part.Reply line) = reply_index line
-index_of (part.Control line) = control_index line
-index_of (part.Header line) = header_index line
-index_of (part.CommitIsh line) = commit_ish_index line
-index_of (part.Change line) = change_index line
-index_of _ = 0
-
--- The place of a kind among all kinds of parts.
-abbrev pub kind_index : Part → ℕ
-kind_index (part.Opening line) = 0
-kind_index (part.Reply line) = 1
-kind_index (part.Control line) = 2
-kind_index (part.Header line) = 3
-kind_index (part.CommitIsh line) = 4
-kind_index (part.Change line) = 5
-kind_index part.Data = 6
-kind_index part.Blank = 7
-kind_index part.Unknown = 8
-
--- Whether two parts are one: they are of one kind, and the same of that kind.
+-- Whether two parts are one.
 abbrev pub same : Part → Part → Bool
-same a b = nat_eq (kind_index a) (kind_index b) && nat_eq (index_of a) (index_of b)
+same a b = nat_eq (place_of a) (place_of b)

@@ -2,8 +2,8 @@
 
 ghost use Rattle.std.specs.Prelude.{◌≡◌, ◌≢◌, ℕ, List, ◌++◌, codes, MatchOption, Ok};
 ghost use Rattle.stream_grammar.specs.Faults.{Gives};
-ghost use Rattle.stream_grammar.specs.Changes as changes;
 ghost use Rattle.stream_grammar.specs.Texts.{read, required, first_word, after_space};
+ghost use Rattle.stream_grammar.specs.Changes as changes;
 
 use crate::data_ref::DataRef;
 use crate::fault::Fault;

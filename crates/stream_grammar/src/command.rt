@@ -2,11 +2,9 @@
 
 ghost use Rattle.std.specs.Prelude.{◌≡◌, OnErr};
 ghost use Rattle.stream_lex.specs.Looking.{item_of};
-ghost use Rattle.stream_grammar.specs.Commands.{step};
-ghost use Rattle.stream_grammar.specs.Commands as commands;
-ghost use Rattle.stream_grammar.specs.Parts.{part_of};
+ghost use Rattle.stream_grammar.specs.{Commands.{step}, Parts.{part_of}, Stages.{HasMark}};
 ghost use Rattle.stream_grammar.specs.Shown.{open_shown, AsksBy, Steps};
-ghost use Rattle.stream_grammar.specs.Stages.{HasMark};
+ghost use Rattle.stream_grammar.specs.Commands as commands;
 
 use crate::act::Done;
 use crate::fault::Fault;

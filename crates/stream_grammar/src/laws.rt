@@ -1,18 +1,16 @@
 //! Laws of the definitions that the contracts of the parser cite. Each function is empty: its
 //! contract is the law, and a call does nothing.
 
-ghost use Rattle.std.specs.Prelude.{◌≡◌, ◌↔◌, ◌<◌, ◌^◌, ◌∷◌, ◌++◌, ℕ, Bool, List, [], IfSome, true, codes, decimal, length, map};
+ghost use Rattle.std.specs.Prelude.{◌≡◌, ◌↔◌, ◌<◌, ◌^◌, ◌∷◌, ◌++◌, ℕ, Bool, List, [], IfSome, true};
+ghost use Rattle.std.specs.Prelude.{codes, decimal, length, map};
 ghost use Rattle.hex.specs.Hex.{IsBytes, encode_lower};
-ghost use Rattle.stream_lex.specs.Items as items;
-ghost use Rattle.stream_grammar.specs.declared.fault.Fault.{Fault};
-ghost use Rattle.stream_grammar.specs.declared.part.Part.{Part};
-ghost use Rattle.stream_grammar.specs.Commands.{Commands, Done, Parsing, given_before, commands, done_by, end_of, top};
-ghost use Rattle.stream_grammar.specs.Commands.{Leads, after, given_by};
-ghost use Rattle.stream_grammar.specs.Grammar.{Term, production_of};
-ghost use Rattle.stream_grammar.specs.Parts.{part_of, same};
-ghost use Rattle.stream_grammar.specs.Texts.{dataref_of, mark_of};
-ghost use Rattle.stream_grammar.specs.WellFormed.{IsWellFormed};
+ghost use Rattle.stream_grammar.specs.{declared.fault.Fault.{Fault}, declared.part.Part.{Part}};
+ghost use Rattle.stream_grammar.specs.Commands.{Done, Parsing, given_before, commands, done_by};
+ghost use Rattle.stream_grammar.specs.Commands.{end_of, top, Leads, after, given_by};
+ghost use Rattle.stream_grammar.specs.{Grammar.{Term, production_of}, Parts.{part_of, same}};
+ghost use Rattle.stream_grammar.specs.{Texts.{dataref_of, mark_of}, WellFormed.{IsWellFormed}};
 ghost use Rattle.stream_grammar.specs.Whole.{AreCommands, ArePlaced, AreTaken, Fills, FindsPlace};
+ghost use Rattle.stream_lex.specs.Items as items;
 
 use crate::data_ref::DataRef;
 
@@ -60,7 +58,7 @@ pub fn whole_streams()
         → AreCommands (map part_of stream) }
 {}
 
-/// The numbers by which two parts are told to be one are those of no other part.
+/// Two parts count as one where they are equal, and nowhere else.
 pub fn same_parts()
     ensures { (part other : Part) → same part other ≡ true ↔ part ≡ other }
 {}

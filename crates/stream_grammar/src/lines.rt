@@ -1,17 +1,13 @@
 //! What an item asks for, by its words and its place; git-fast-import(1), "Commands".
 
-ghost use Rattle.std.specs.List.{list_all};
-ghost use Rattle.std.specs.Prelude.{◌==◌, not, ◌≡◌, OnErr, Ok};
+ghost use Rattle.std.specs.{List.{list_all}, Prelude.{◌==◌, not, ◌≡◌, OnErr, Ok}};
 ghost use Rattle.stream_lex.specs.Looking.{item_of};
-ghost use Rattle.stream_grammar.specs.Faults.{Gives};
+ghost use Rattle.stream_grammar.specs.{Faults.{Gives}, Names.{commit_ish_of}, Acts.{Commit, Merge}};
+ghost use Rattle.stream_grammar.specs.{Texts.{read}, Shown.{act_shown, Brings}};
 ghost use Rattle.stream_grammar.specs.Features as features;
 ghost use Rattle.stream_grammar.specs.Lines as lines;
-ghost use Rattle.stream_grammar.specs.Names.{commit_ish_of};
-ghost use Rattle.stream_grammar.specs.Acts.{Commit, Merge};
 ghost use Rattle.stream_grammar.specs.Changes as changes;
 ghost use Rattle.stream_grammar.specs.declared.part.ChangeLine.TheVariants as change;
-ghost use Rattle.stream_grammar.specs.Texts.{read};
-ghost use Rattle.stream_grammar.specs.Shown.{act_shown, Brings};
 
 use crate::act::{
     Act, CommitCommand, ControlCommand, FileChange, ObjectCommand, RefCommand, ReplyCommand,

@@ -1,10 +1,7 @@
 //! The names in a line: refs, idents and commit-ishes.
 
-ghost use Rattle.std.specs.Prelude.{◌≡◌};
-ghost use Rattle.stream_grammar.specs.Faults.{Gives};
+ghost use Rattle.stream_grammar.specs.{Faults.{Gives}, Features.{head_of}, Shown.{commit_shown}};
 ghost use Rattle.stream_grammar.specs.Names as names;
-ghost use Rattle.stream_grammar.specs.Features.{head_of};
-ghost use Rattle.stream_grammar.specs.Shown.{commit_shown};
 
 use crate::commit_ish::CommitIsh;
 use crate::fault::Fault;

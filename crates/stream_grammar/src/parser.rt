@@ -4,12 +4,11 @@
 //! that it gave.
 
 ghost use Rattle.std.specs.Prelude.{◌≡◌, ◌≢◌, ◌∷◌, ◌++◌, List, [], Err};
-ghost use Rattle.stream_lex.specs.Items as items;
 ghost use Rattle.stream_lex.specs.Looking.{item_of};
-ghost use Rattle.stream_grammar.specs.Commands as commands;
 ghost use Rattle.stream_grammar.specs.Commands.{Leads, top, done_by, after, end_of};
-ghost use Rattle.stream_grammar.specs.Parts.{part_of};
-ghost use Rattle.stream_grammar.specs.Shown.{Answers, AsksBy, given_shown};
+ghost use Rattle.stream_grammar.specs.{Parts.{part_of}, Shown.{Answers, AsksBy, given_shown}};
+ghost use Rattle.stream_lex.specs.Items as items;
+ghost use Rattle.stream_grammar.specs.Commands as commands;
 
 use crate::act::Done;
 use crate::command::{self, Command, is_commit};
@@ -28,8 +27,7 @@ pub struct Parser {
 }
 
 impl Model for Parser {
-    ghost use Rattle.stream_grammar.specs.Commands.{Parsing};
-    ghost use Rattle.stream_grammar.specs.Shown.{parsing_shown};
+    ghost use Rattle.stream_grammar.specs.{Commands.{Parsing}, Shown.{parsing_shown}};
 
     ghost Value = { Parsing };
 

@@ -1,10 +1,9 @@
 //! Stages: which parts of the open command may still come.
 
-ghost use Rattle.std.specs.Prelude.{◌≡◌, IfSome, None};
-ghost use Rattle.std.specs.Option.{option_map};
-ghost use Rattle.stream_grammar.specs.declared.stage.Opened.TheVariants as opened;
+ghost use Rattle.std.specs.{Prelude.{◌≡◌, IfSome, None}, Option.{option_map}};
 ghost use Rattle.stream_grammar.specs.Commands.{opened_by, opened_by_line};
 ghost use Rattle.stream_grammar.specs.Grammar.{fit, may_end, is_empty, production, production_of};
+ghost use Rattle.stream_grammar.specs.declared.stage.Opened.TheVariants as opened;
 ghost use Rattle.stream_grammar.specs.Stages as stages;
 
 use crate::part::{ChangeLine, CommitIshLine, HeaderLine, OpeningLine, Part, ReplyLine};

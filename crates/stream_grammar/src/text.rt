@@ -1,7 +1,6 @@
 //! The words of a line: marks and datarefs.
 
-ghost use Rattle.std.specs.Prelude.{◌≡◌, ◌<◌, length, IfSome};
-ghost use Rattle.std.specs.List.{position_from};
+ghost use Rattle.std.specs.{Prelude.{◌≡◌, ◌<◌, length, IfSome}, List.{position_from}};
 ghost use Rattle.std.specs.Option.{option_copied};
 ghost use Rattle.stream_grammar.specs.Texts as texts;
 

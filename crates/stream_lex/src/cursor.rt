@@ -2,8 +2,7 @@
 
 ghost use Rattle.std.specs.Prelude.{◌≡◌, ◌+◌, ◌<◌, ◌≤◌, ◌^◌, length};
 ghost use Rattle.stream_lex.specs.Cursor.{IsAt, SearchesOnce, rest_of, tail_of};
-ghost use Rattle.stream_lex.specs.Lexer.{GivesFirst};
-ghost use Rattle.stream_lex.specs.Looking.{item_of};
+ghost use Rattle.stream_lex.specs.{Lexer.{GivesFirst}, Looking.{item_of}};
 ghost use Rattle.stream_lex.specs.Reading.{is_data as data_item};
 ghost use Rattle.stream_lex.specs.declared.place.Place.TheVariants.{Line};
 

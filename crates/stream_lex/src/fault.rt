@@ -2,7 +2,7 @@
 
 ghost use Rattle.std.specs.Prelude.{◌≡◌};
 ghost use Rattle.stream_lex.specs.Faults.{code_of};
-ghost use Rattle.stream_lex.specs.declared.fault.Fault.TheVariants.{Memory};
+ghost use Rattle.stream_lex.specs.declared.fault.Fault.TheVariants as fault;
 
 use std::alloc::AllocError;
 use thiserror::Error;
@@ -15,19 +15,19 @@ pub enum Fault {
     /// A line has more than 1,048,575 bytes, without its line end (1). Comments and data headers
     /// are lines too.
     #[error("a line is too long")]
-    LineTooLong,
+    LineTooLong = 1,
     /// A data header has a bad count or an empty delimiter (4).
     #[error("a data header has a bad count or delimiter")]
-    BadData,
+    BadData = 4,
     /// The stream ends within a line, a comment or a data (6). The lexer is unchanged.
     #[error("the stream is cut off")]
-    CutOff,
+    CutOff = 6,
     /// A data has more than 67,108,864 bytes (25).
     #[error("a data is too large")]
-    Limit,
+    Limit = 25,
     /// The buffer could not grow (90). The lexer is unchanged.
     #[error("out of memory")]
-    Memory,
+    Memory = 90,
 }
 
 impl Fault {
@@ -35,18 +35,12 @@ impl Fault {
     pub fn code(&self) -> u16
         ensures { result ≡ code_of self.now }
     {
-        match self {
-            Fault::LineTooLong => 1,
-            Fault::BadData => 4,
-            Fault::CutOff => 6,
-            Fault::Limit => 25,
-            Fault::Memory => 90,
-        }
+        *self as u16
     }
 }
 
 impl From<AllocError> for Fault {
-    ghost from_gives = { λ _ fault. fault ≡ Memory };
+    ghost from_gives = { λ _ refused. refused ≡ fault.Memory };
 
     fn from(_refused: AllocError) -> Fault {
         Fault::Memory

@@ -3,11 +3,8 @@
 //! Each is a function with an empty body: its clause is the law, and the check is its proof.
 
 ghost use Rattle.std.specs.Prelude.{◌≡◌, ℕ, false, List, ◌++◌};
-ghost use Rattle.stream_lex.specs.declared.fault.Fault.{Fault};
-ghost use Rattle.stream_lex.specs.Items.{Item, Tail, Failed, after_items};
-ghost use Rattle.stream_lex.specs.Reading.{reading};
-ghost use Rattle.stream_lex.specs.Reads.{Reads};
-ghost use Rattle.stream_lex.specs.Running.{more_of};
+ghost use Rattle.stream_lex.specs.{declared.fault.Fault.{Fault}, Reading.{reading}, Reads.{Reads}};
+ghost use Rattle.stream_lex.specs.{Items.{Item, Tail, Failed, after_items}, Running.{more_of}};
 
 /// Bytes have at most one reading, and it is the one that `reading` computes.
 pub fn readings_agree()

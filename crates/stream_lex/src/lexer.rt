@@ -1,11 +1,9 @@
 //! The lexer: the bytes that were fed, and how far they were read.
 
-ghost use Rattle.std.specs.Prelude.{◌≡◌, ◌+◌, ◌≤◌, ℕ, List, ◌++◌, length, Ok, Err, OnOk, OnErr, IfErr, ◌⊎◌};
-ghost use Rattle.std.specs.Borrow.{sem};
-ghost use Rattle.stream_lex.specs.Items.{Item as ItemRead, Failed};
-ghost use Rattle.stream_lex.specs.Lexer.{ended, held_bytes, new_lexer};
-ghost use Rattle.stream_lex.specs.Running.{Leads, extended};
-ghost use Rattle.stream_lex.specs.Search.{counted_on};
+ghost use Rattle.std.specs.Prelude.{◌≡◌, ◌+◌, ◌≤◌, ℕ, List, ◌++◌, length, Ok, Err, OnOk, OnErr};
+ghost use Rattle.std.specs.{Prelude.{IfErr, ◌⊎◌}, Borrow.{sem}};
+ghost use Rattle.stream_lex.specs.{Items.{Item as ItemRead, Failed}, Running.{Leads, extended}};
+ghost use Rattle.stream_lex.specs.{Lexer.{ended, held_bytes, new_lexer}, Search.{counted_on}};
 
 use crate::cursor::{Cursor, give_up_taken, next_item};
 use crate::fault::Fault;

@@ -2,9 +2,9 @@
 
 ghost use Rattle.std.specs.Prelude.{◌≡◌, ◌+◌, ◌-◌, ◌<◌, ◌≤◌, ℕ, List, Some, length, take};
 ghost use Rattle.stream_lex.specs.Headers.{HasNoLineEnd, line_length, longest_line};
-ghost use Rattle.stream_lex.specs.Looking.{IsFoundPlaced, IsInCounted, IsInDelimited, IsNext, IsPlaced, WaitsWithAll, first_found};
-ghost use Rattle.stream_lex.specs.Reading.{data_before, first_of};
-ghost use Rattle.stream_lex.specs.Search.{SearchesOn};
+ghost use Rattle.stream_lex.specs.Looking.{IsFoundPlaced, IsInCounted, IsInDelimited, IsNext};
+ghost use Rattle.stream_lex.specs.Looking.{IsPlaced, WaitsWithAll, first_found};
+ghost use Rattle.stream_lex.specs.{Reading.{data_before, first_of}, Search.{SearchesOn}};
 
 use crate::fault::Fault;
 use crate::header::{LineKind, kind};

@@ -1,6 +1,6 @@
 //! The search for line ends, which scans no byte twice.
 
-ghost use Rattle.std.specs.Prelude.{◌≡◌, ◌≤◌, length};
+ghost use Rattle.std.specs.Prelude.{◌≤◌, length};
 ghost use Rattle.stream_lex.specs.Search.{FindsLineEnd, GoesOver};
 
 use memchr::memchr;

@@ -4,10 +4,9 @@
 //! export of this program leaves out a few numbers, those of the trees. While marks are set in this
 //! order, their objects are in a list. Every other mark is in a hash map.
 
-ghost use Rattle.std.specs.Prelude.{◌≡◌, ◌<◌, ◌≤◌, ◌+◌, ◌-◌, [], ◌∷◌, ◌++◌, None, Some, length, nat_eq, is_some, replicate, OnOk};
-ghost use Rattle.std.specs.Map.{lookup};
-ghost use Rattle.std.specs.Option.{option_copied};
-ghost use Rattle.std.specs.Vec.{vec_capacity, vec_len};
+ghost use Rattle.std.specs.Prelude.{◌≡◌, ◌<◌, ◌≤◌, ◌+◌, ◌-◌, [], ◌∷◌, ◌++◌, None, Some, length};
+ghost use Rattle.std.specs.{Prelude.{nat_eq, is_some, replicate, OnOk}, Map.{lookup}};
+ghost use Rattle.std.specs.{Option.{option_copied}, Vec.{vec_capacity, vec_len}};
 ghost use Rattle.indexmap.specs.IndexMap.{insert_entry};
 ghost use Rattle.stream_marks.specs.InOrder.{object_at, may_follow};
 
@@ -41,11 +40,9 @@ impl Drop for Marks {
 }
 
 impl Model for Marks {
-    ghost use Rattle.std.specs.Prelude.{◌-◌, length, min};
-    ghost use Rattle.std.specs.Vec.{vec_capacity};
+    ghost use Rattle.std.specs.{Prelude.{◌-◌, length, min}, Vec.{vec_capacity}};
     ghost use Rattle.indexmap.specs.IndexMap.{spare};
-    ghost use Rattle.stream_marks.specs.InOrder.{HasMarks};
-    ghost use Rattle.stream_marks.specs.View.{View, in_turn};
+    ghost use Rattle.stream_marks.specs.{InOrder.{HasMarks}, View.{View, in_turn}};
 
     ghost Value = { View };
 

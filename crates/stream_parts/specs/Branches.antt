@@ -12,8 +12,6 @@ use Rattle.stream_parts.specs.declared.branches.Tip.{Tip}
 use Rattle.stream_parts.specs.declared.branches.Tip.TheVariants.{Unborn, Deleted, At}
 use Rattle.stream_parts.specs.declared.fault.Fault.{Fault}
 use Rattle.stream_parts.specs.declared.fault.Fault.TheVariants as fault
-use Rattle.std.specs.Prelude.{ℕ, Bool, List, length, Option, None, Result, Ok}
-use Rattle.std.specs.Prelude.{ℕ, Bool, List, Option, None, Some, Result, Ok, Err}
 use Rattle.std.specs.Option.{option_and_then}
 
 -- The branches of a stream, by their refs, in the order of their first appearance. Each is unborn,

@@ -1,7 +1,7 @@
 -- Faults: the number of each, for replies and exit statuses; how the faults of the layers below are
 -- passed on; and what a refusal stops.
-use Rattle.std.specs.Prelude.{ℕ, Result, Ok, Err}
-use Rattle.git_model.specs.Results.{GivesOr}
+use Rattle.std.specs.Prelude.{ℕ, Result}
+use Rattle.git_model.specs.Results.{GivesOr, refused_as}
 use Rattle.stream_grammar.specs.declared.fault.Fault.{Fault as TextFault}
 use Rattle.stream_grammar.specs.Faults.{code_of as text_code}
 use Rattle.revisions.specs.declared.fault.Fault.{Fault as RevisionFault}
@@ -33,8 +33,7 @@ code_of naming = naming_code naming
 
 -- What the text of an item gives, or its fault as one of the stream.
 abbrev pub text_first : {A : Type 0} → Result A TextFault → Result A Fault
-text_first (Ok value) = Ok value
-text_first (Err e) = Err (fault.Text e)
+text_first result = refused_as fault.Text result
 
 -- The fault of an expression, as one of the stream.
 abbrev pub resolving_fault : RevisionFault → Fault
@@ -45,8 +44,7 @@ resolving_fault revision_fault.Ambiguous = fault.Ambiguous
 resolving_fault revision_fault.Memory = fault.Memory
 
 abbrev pub resolved_or : {A : Type 0} → Result A RevisionFault → Result A Fault
-resolved_or (Ok value) = Ok value
-resolved_or (Err e) = Err (resolving_fault e)
+resolved_or found = refused_as resolving_fault found
 
 -- A call answers what is defined, or `Memory` in its place.
 abbrev pub Gives : {A : Type 0} → Result A Fault → Result A Fault → Type 0

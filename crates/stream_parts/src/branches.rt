@@ -1,9 +1,9 @@
 //! The branches of a stream, and its HEAD: git-fast-import(1), "reset".
 
-ghost use Rattle.std.specs.Prelude.{◌≡◌, ◌≢◌, ◌↔◌, ◌<◌, [], length, slice_get, IsSome, Ok, Err, MatchResult, OnOk, OnErr, IfErr, IfOk};
-ghost use Rattle.std.specs.Option.{option_map};
-ghost use Rattle.stream_parts.specs.Branches.{branch_set, has_branch_room, ref_meant, tip_of, with_branch, commit_at, tip_commit, tip_for};
-ghost use Rattle.std.specs.Prelude.{◌≡◌, ◌≢◌, Ok, Err, IfOk, OnOk, MatchResult};
+ghost use Rattle.std.specs.Prelude.{◌≡◌, ◌≢◌, ◌↔◌, ◌<◌, [], length, slice_get, IsSome, Ok, Err};
+ghost use Rattle.std.specs.{Prelude.{MatchResult, OnOk, OnErr, IfErr, IfOk}, Option.{option_map}};
+ghost use Rattle.stream_parts.specs.Branches.{branch_set, has_branch_room, ref_meant, tip_of};
+ghost use Rattle.stream_parts.specs.Branches.{with_branch, commit_at, tip_commit, tip_for};
 
 use crate::fault::Fault;
 use crate::head::Head;

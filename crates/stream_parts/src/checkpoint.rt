@@ -1,7 +1,8 @@
 //! What a checkpoint does to refs: git-fast-import(1), "checkpoint"; and "fast-forward" of
 //! gitglossary(7).
 
-ghost use Rattle.std.specs.Prelude.{◌≡◌, ◌≢◌, ◌++◌, ◌∷◌, [], ◌≤◌, ◌<◌, length, IfOk, IfErr, OnOk, OnErr, MatchResult};
+ghost use Rattle.std.specs.Prelude.{◌≡◌, ◌≢◌, ◌++◌, ◌∷◌, [], ◌≤◌, ◌<◌, length, IfOk, IfErr, OnOk};
+ghost use Rattle.std.specs.Prelude.{OnErr, MatchResult};
 ghost use Rattle.git_model.specs.GoodRepository.{AreObjects, refs_limit};
 ghost use Rattle.git_model.specs.RefStore.{listed_refs, RefStore};
 ghost use Rattle.tenant_refs.specs.Changes.{with_changes};
@@ -60,7 +61,9 @@ pub fn add_change(
     ensures refused { IfErr result (λ fault. fault ≡ Fault.Memory) }
 {
     let ref_name = ref_name.try_clone(alloc)?;
-    changes.push(RefChange { ref_name, target })?;
+    changes
+        .push(RefChange { ref_name, target })
+        .or(Err(Fault::Memory))?;
     Ok(())
 }
 

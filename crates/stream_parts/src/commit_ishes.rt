@@ -1,14 +1,12 @@
 //! What an expression names, and what it is peeled to: git-fast-import(1), "from".
 
 ghost use Rattle.std.specs.Prelude.{◌≡◌};
-ghost use Rattle.git_model.specs.GoodRepository.{AreObjects};
-ghost use Rattle.revisions.specs.Resolution.{peeled, resolved};
-ghost use Rattle.revisions.specs.TagEnds.{AreChains};
-ghost use Rattle.stream_parts.specs.declared.fault.Fault.TheVariants as fault;
+ghost use Rattle.git_model.specs.{GoodRepository.{AreObjects}, Results.{or_fault}};
+ghost use Rattle.revisions.specs.{Resolution.{peeled, resolved}, TagEnds.{AreChains}};
 ghost use Rattle.revisions.specs.Faults.{Gives as Names};
-ghost use Rattle.git_model.specs.Results.{or_fault};
 ghost use Rattle.stream_parts.specs.Faults.{resolved_or, resolving_fault, Gives};
 ghost use Rattle.stream_parts.specs.Branches.{commit_at};
+ghost use Rattle.stream_parts.specs.declared.fault.Fault.TheVariants as fault;
 
 use crate::branches::Tip;
 use crate::fault::Fault;

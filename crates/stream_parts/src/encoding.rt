@@ -1,7 +1,6 @@
 //! The encoding of a message, as its line names it: git-fast-import(1), "encoding".
 
-ghost use Rattle.std.specs.Prelude.{◌≡◌, IfOk};
-ghost use Rattle.std.specs.Option.{option_map};
+ghost use Rattle.std.specs.{Prelude.{◌≡◌, IfOk}, Option.{option_map}};
 
 use git_objects::Memory;
 use std::alloc::Global;

@@ -1,12 +1,9 @@
 //! What is printed of a stored tree: git-fast-import(1), "ls".
 
-ghost use Rattle.std.specs.Prelude.{◌≡◌, ◌++◌, codes, Ok, OnOk, OnErr};
-ghost use Rattle.std.specs.Option.{option_map};
-ghost use Rattle.git_model.specs.GoodRepository.{AreObjects};
-ghost use Rattle.git_model.specs.StoredPath.{entry_at_path};
+ghost use Rattle.std.specs.{Prelude.{◌≡◌, ◌++◌, codes, Ok, OnOk, OnErr}, Option.{option_map}};
+ghost use Rattle.git_model.specs.{GoodRepository.{AreObjects}, StoredPath.{entry_at_path}};
 ghost use Rattle.git_objects.specs.Parts.{entry_of};
-ghost use Rattle.stream_parts.specs.Faults.{Gives};
-ghost use Rattle.stream_parts.specs.Printing.{Shows};
+ghost use Rattle.stream_parts.specs.{Faults.{Gives}, Printing.{Shows}};
 ghost use Rattle.stream_parts.specs.Showing.{entry_line, entry_shown, tree_in};
 
 use crate::commit_ishes::peel_to;

@@ -2,9 +2,10 @@
 
 ghost use Rattle.std.specs.Prelude.{◌≡◌};
 ghost use Rattle.stream_parts.specs.Faults.{code_of};
+ghost use Rattle.stream_parts.specs.declared.fault.Fault.TheVariants as fault;
 
 use git_objects::Memory;
-use std::alloc::{AllocError, AllocFailed};
+use std::alloc::AllocError;
 use thiserror::Error;
 
 /// Why an item, or the end of a stream, was refused.
@@ -80,31 +81,17 @@ impl Fault {
 }
 
 impl From<AllocError> for Fault {
-    ghost use Rattle.stream_parts.specs.declared.fault.Fault.TheVariants.{Memory};
+    ghost from_gives = { λ _ refused. refused ≡ fault.Memory };
 
-    ghost from_gives = { λ _ fault. fault ≡ Memory };
-
-    fn from(_e: AllocError) -> Fault {
-        Fault::Memory
-    }
-}
-
-impl<T: Drop> From<AllocFailed<T>> for Fault {
-    ghost use Rattle.stream_parts.specs.declared.fault.Fault.TheVariants.{Memory};
-
-    ghost from_gives = { λ _ fault. fault ≡ Memory };
-
-    fn from(_e: AllocFailed<T>) -> Fault {
+    fn from(_refused: AllocError) -> Fault {
         Fault::Memory
     }
 }
 
 impl From<Memory> for Fault {
-    ghost use Rattle.stream_parts.specs.declared.fault.Fault.TheVariants as fault;
+    ghost from_gives = { λ _ refused. refused ≡ fault.Memory };
 
-    ghost from_gives = { λ _ f. f ≡ fault.Memory };
-
-    fn from(_e: Memory) -> Fault {
+    fn from(_refused: Memory) -> Fault {
         Fault::Memory
     }
 }

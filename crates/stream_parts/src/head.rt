@@ -1,9 +1,8 @@
 //! What HEAD is to name: "HEAD" of gitglossary(7).
 
-ghost use Rattle.std.specs.Prelude.{◌≡◌, ◌≢◌, codes, if◌then◌else◌, Ok, Err};
-ghost use Rattle.std.specs.Str.{bytes_eq};
-ghost use Rattle.stream_grammar.specs.declared.fault.Fault.TheVariants as text_fault;
+ghost use Rattle.std.specs.{Prelude.{◌≡◌, ◌≢◌, codes, if◌then◌else◌, Ok, Err}, Str.{bytes_eq}};
 ghost use Rattle.stream_parts.specs.Faults.{Gives};
+ghost use Rattle.stream_grammar.specs.declared.fault.Fault.TheVariants as text_fault;
 
 use crate::fault::Fault;
 use std::alloc::Global;

@@ -1,7 +1,8 @@
 //! The marks of a stream: git-fast-import(1), "mark".
 
 ghost use Rattle.std.specs.Prelude.{◌≡◌, ◌≢◌, ◌<◌, Ok, Err, MatchResult, OnOk};
-ghost use Rattle.stream_parts.specs.Marks.{has_room, marked_name, referred_name, room_for, with_mark};
+ghost use Rattle.stream_parts.specs.Marks.{has_room, marked_name, referred_name, room_for};
+ghost use Rattle.stream_parts.specs.Marks.{with_mark};
 
 use crate::fault::Fault;
 use git_objects::{Kind, Name};

@@ -1,19 +1,13 @@
 //! What a stream does with objects: git-fast-import(1), "blob" and "cat-blob".
 
-ghost use Rattle.std.specs.Option.{option_map};
-ghost use Rattle.std.specs.Prelude.{◌≡◌, ◌≢◌};
-ghost use Rattle.git_model.specs.Content.{content_from};
-ghost use Rattle.git_model.specs.Repository.{object_named};
-ghost use Rattle.content_pool.specs.Pool.{HasHoldsLeft};
-ghost use Rattle.tenant_tables.specs.IsBackedBy.{IsBackedBy};
-ghost use Rattle.stream_parts.specs.Printing.{Shows, shown_object};
-ghost use Rattle.stream_parts.specs.Storing.{storing_fault};
-ghost use Rattle.tenant_tables.specs.Lent.{Keeps};
-ghost use Rattle.stream_parts.specs.Stored.{Stores};
-ghost use Rattle.std.specs.Prelude.{◌≡◌, Ok};
-ghost use Rattle.hex.specs.Hex.{encode_lower};
+ghost use Rattle.std.specs.{Option.{option_map}, Prelude.{◌≡◌, ◌≢◌, Ok}};
+ghost use Rattle.git_model.specs.{Content.{content_from}, Repository.{object_named}};
 ghost use Rattle.git_model.specs.Results.{and_then};
-ghost use Rattle.stream_parts.specs.Marks.{marked_name, referred_name};
+ghost use Rattle.content_pool.specs.Pool.{HasHoldsLeft};
+ghost use Rattle.tenant_tables.specs.{IsBackedBy.{IsBackedBy}, Lent.{Keeps}};
+ghost use Rattle.stream_parts.specs.{Printing.{Shows, shown_object}, Storing.{storing_fault}};
+ghost use Rattle.stream_parts.specs.{Stored.{Stores}, Marks.{marked_name, referred_name}};
+ghost use Rattle.hex.specs.Hex.{encode_lower};
 
 use crate::fault::Fault;
 use crate::marks;

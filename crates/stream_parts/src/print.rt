@@ -1,24 +1,12 @@
 //! What a stream prints: git-fast-import(1), "cat-blob" and "get-mark".
 
-ghost use Rattle.std.specs.Prelude.{◌≡◌, ◌++◌, length, take, codes, OnOk, OnErr};
-ghost use Rattle.std.specs.List.{flat_map};
+ghost use Rattle.std.specs.{Prelude.{◌≡◌, ◌++◌, codes, OnOk, OnErr}, List.{flat_map}};
 ghost use Rattle.hex.specs.Hex.{encode_lower};
 ghost use Rattle.stream_parts.specs.Printing.{blob_text};
 
-use git_objects::{Memory, Name};
+use git_objects::{Memory, Name, append_parts};
 use itoa::Buffer;
 use tenant_refs::RefName;
-
-fn append_all(parts: &[&[u8]], out: &mut Vec<u8>) -> Result<(), Memory>
-    ensures written { OnOk result (out.new.items
-        ≡ out.old.items ++ flat_map (λ part. part.now) parts.now) }
-    ensures kept { take (length out.old.items) out.new.items ≡ out.old.items }
-{
-    for part in parts {
-        out.extend_from_slice(part)?;
-    }
-    Ok(())
-}
 
 /// Appends the parts in turn, or nothing if there is no room for all of them.
 pub fn print(parts: &[&[u8]], out: &mut Vec<u8>) -> Result<(), Memory>
@@ -27,7 +15,7 @@ pub fn print(parts: &[&[u8]], out: &mut Vec<u8>) -> Result<(), Memory>
     ensures same { OnErr result (out.new.items ≡ out.old.items) }
 {
     let start = out.len();
-    let written = append_all(parts, out);
+    let written = append_parts(parts, out);
     if written.is_err() {
         out.truncate(start);
     }

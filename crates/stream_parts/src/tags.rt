@@ -1,15 +1,12 @@
 //! Tags: git-fast-import(1), "tag".
 
 ghost use Rattle.std.specs.Prelude.{◌≡◌, ◌≢◌, ◌<◌, length, Ok, Err, MatchResult, IfOk, OnOk, IfErr};
-ghost use Rattle.std.specs.Option.{option_map};
-ghost use Rattle.std.specs.Vec.{vec_capacity};
+ghost use Rattle.std.specs.{Option.{option_map}, Vec.{vec_capacity}};
 ghost use Rattle.indexmap.specs.IndexMap.{spare};
-ghost use Rattle.git_model.specs.Content.{content_from};
-ghost use Rattle.git_model.specs.References.{kind_named};
+ghost use Rattle.git_model.specs.{Content.{content_from}, References.{kind_named}};
 ghost use Rattle.content_pool.specs.Pool.{HasHoldsLeft};
-ghost use Rattle.tenant_tables.specs.IsBackedBy.{IsBackedBy};
+ghost use Rattle.tenant_tables.specs.{IsBackedBy.{IsBackedBy}, Lent.{Keeps}};
 ghost use Rattle.stream_parts.specs.Tags.{room_for_tag, tag_content, tagged_kind};
-ghost use Rattle.tenant_tables.specs.Lent.{Keeps};
 ghost use Rattle.stream_parts.specs.Stored.{Stores};
 
 use crate::fault::Fault;

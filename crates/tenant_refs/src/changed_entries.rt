@@ -2,8 +2,7 @@
 //! each ref that goes in before it.
 
 ghost use Rattle.std.specs.Prelude.{◌≡◌, ◌+◌, ◌++◌, ◌≤◌, ◌<◌, List, ℕ, IfOk, OnOk, OnErr};
-ghost use Rattle.std.specs.Vec.{vec_capacity, vec_len};
-ghost use Rattle.std.specs.VecDeque.{deque_len};
+ghost use Rattle.std.specs.{Vec.{vec_capacity, vec_len}, VecDeque.{deque_len}};
 ghost use Rattle.git_model.specs.RefStore.{RefStore};
 ghost use Rattle.tenant_refs.specs.Changes.{store_of, with_target, with_changes};
 ghost use Rattle.tenant_refs.specs.Place.{AreAbove, Entries, IsInOrder, starts_up_to};

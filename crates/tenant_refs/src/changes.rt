@@ -1,7 +1,6 @@
 //! Several changes to refs: all are made, or none.
 
-ghost use Rattle.std.specs.Prelude.{◌≡◌, ◌+◌, ◌≤◌, ◌<◌, length, OnOk, OnErr, Err};
-ghost use Rattle.std.specs.Vec.{vec_len};
+ghost use Rattle.std.specs.{Prelude.{◌≡◌, ◌+◌, ◌≤◌, ◌<◌, length, OnOk, OnErr, Err}, Vec.{vec_len}};
 ghost use Rattle.git_model.specs.RefStore.{listed_refs};
 ghost use Rattle.tenant_refs.specs.Changes.{with_changes};
 
@@ -25,10 +24,10 @@ pub struct RefChange {
 pub enum ChangesFault {
     /// There would be too many refs after the changes (25).
     #[error("too many refs")]
-    Limit,
+    Limit = 25,
     /// An allocation failed (90).
     #[error("out of memory")]
-    Memory,
+    Memory = 90,
 }
 
 impl ChangesFault {
@@ -38,10 +37,7 @@ impl ChangesFault {
     pub fn code(self) -> u16
         ensures { result ≡ changes_code self }
     {
-        match self {
-            ChangesFault::Limit => 25,
-            ChangesFault::Memory => 90,
-        }
+        self as u16
     }
 }
 

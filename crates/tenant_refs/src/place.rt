@@ -1,7 +1,6 @@
 //! The position of a ref among refs in the order of their bytes, or where it would go.
 
-ghost use Rattle.std.specs.Prelude.{◌≡◌, IfOk, IfErr};
-ghost use Rattle.std.specs.Ordering.{nat_cmp};
+ghost use Rattle.std.specs.{Prelude.{◌≡◌, IfOk, IfErr}, Ordering.{nat_cmp}};
 ghost use Rattle.std.specs.Cmp.Lexicographic.{slice_cmp};
 ghost use Rattle.tenant_refs.specs.Place.{IsInOrder, IsPlaceOf, IsGapFor};
 

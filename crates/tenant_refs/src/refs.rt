@@ -4,11 +4,12 @@
 //! There may be a ref `a` and a ref `a/b` at the same time. Nothing here checks that the object of
 //! a name exists.
 
-ghost use Rattle.std.specs.Prelude.{◌≡◌, ◌≢◌, ◌↔◌, ◌≤◌, IfOk, IfSome, OnOk, OnErr, IsTrue, Some, None, option_map, slice_get, length, codes};
-ghost use Rattle.git_model.specs.Limits.{ref_name_limit};
-ghost use Rattle.git_model.specs.RefStore.{no_refs, target_of, listed_refs, with_ref, without_ref, with_head, ChangesRef};
-ghost use Rattle.tenant_refs.specs.StoredName.{NamesRef};
+ghost use Rattle.std.specs.Prelude.{◌≡◌, ◌≢◌, ◌↔◌, ◌≤◌, IfOk, IfSome, OnOk, OnErr, IsTrue, Some};
+ghost use Rattle.std.specs.Prelude.{None, option_map, slice_get, length, codes};
+ghost use Rattle.git_model.specs.{Limits.{ref_name_limit}, RefStore.{with_head, ChangesRef}};
+ghost use Rattle.git_model.specs.RefStore.{no_refs, target_of, listed_refs, with_ref, without_ref};
 ghost use Rattle.git_model.specs.RefName.{IsRefName};
+ghost use Rattle.tenant_refs.specs.StoredName.{NamesRef};
 
 use crate::place::place_of;
 use git_names::{Memory, Name, RefName};
@@ -35,10 +36,8 @@ impl Model for Refs {
 
     ghost coded = { ref_store_code };
 
-    ghost use Rattle.std.specs.Prelude.{IsTrue, unwrap_or};
-    ghost use Rattle.std.specs.FinMap.{from_sorted};
-    ghost use Rattle.git_model.specs.RefName.{is_ref_name};
-    ghost use Rattle.git_model.specs.RefStore.{first_head};
+    ghost use Rattle.std.specs.{Prelude.{IsTrue, unwrap_or}, FinMap.{from_sorted}};
+    ghost use Rattle.git_model.specs.{RefName.{is_ref_name}, RefStore.{first_head}};
     ghost use Rattle.tenant_refs.specs.Place.{IsInOrder};
 
     ghost view = { λ r. record {

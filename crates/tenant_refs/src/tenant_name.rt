@@ -3,12 +3,12 @@
 //! A name of several parts is a tenant of its own: the tenants `a` and `a/b` share nothing.
 
 ghost use Rattle.std.specs.Prelude.{◌≡◌, ◌≤◌, ◌↔◌, ◌&&◌, IfOk, IsTrue, Err, is_ok, length};
-ghost use Rattle.std.specs.List.{list_all};
-ghost use Rattle.std.specs.Cmp.Rules.{comparing, hashing};
-ghost use Rattle.std.proofs.Common.{rules};
+ghost use Rattle.std.specs.{List.{list_all}, Cmp.Rules.{comparing, hashing}};
 ghost use Rattle.git_model.specs.Limits.{tenant_name_limit};
-ghost use Rattle.tenant_refs.specs.TenantName.{IsTenantName, is_tenant_name, parts_of, is_part, is_part_byte};
+ghost use Rattle.tenant_refs.specs.TenantName.{IsTenantName, is_tenant_name, parts_of, is_part};
+ghost use Rattle.tenant_refs.specs.TenantName.{is_part_byte};
 ghost use Rattle.tenant_refs.specs.declared.tenant_name_fault.TenantNameFault.TheVariants.{BadTenantName};
+ghost use Rattle.std.proofs.Common.{rules};
 
 use crate::tenant_name_fault::TenantNameFault;
 use std::cmp::Ordering;
@@ -134,8 +134,7 @@ impl Eq for TenantName {
 }
 
 impl PartialOrd for TenantName {
-    ghost use Rattle.std.specs.Prelude.{Some};
-    ghost use Rattle.std.specs.Ordering.{nat_cmp};
+    ghost use Rattle.std.specs.{Prelude.{Some}, Ordering.{nat_cmp}};
     ghost use Rattle.std.specs.Cmp.Lexicographic.{slice_cmp, texts_po};
 
     ghost partial_cmp = { λ a b. Some (slice_cmp nat_cmp a b) };
@@ -148,8 +147,7 @@ impl PartialOrd for TenantName {
 }
 
 impl Ord for TenantName {
-    ghost use Rattle.std.specs.Prelude.{refl};
-    ghost use Rattle.std.specs.Ordering.{nat_cmp};
+    ghost use Rattle.std.specs.{Prelude.{refl}, Ordering.{nat_cmp}};
     ghost use Rattle.std.specs.Cmp.Lexicographic.{slice_cmp, nat_list_cmp_total, texts_ties};
 
     ghost cmp = { slice_cmp nat_cmp };

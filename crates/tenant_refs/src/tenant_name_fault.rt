@@ -9,7 +9,7 @@ use thiserror::Error;
 pub enum TenantNameFault {
     /// The text is not a tenant name by the rules of `is_tenant_name` (32).
     #[error("bad tenant name")]
-    BadTenantName,
+    BadTenantName = 32,
 }
 
 impl TenantNameFault {
@@ -19,8 +19,6 @@ impl TenantNameFault {
     pub fn code(&self) -> u16
         ensures { result ≡ tenant_name_code self.now }
     {
-        match self {
-            TenantNameFault::BadTenantName => 32,
-        }
+        *self as u16
     }
 }

@@ -11,10 +11,8 @@ ghost use Rattle.tenant_refs.specs.TenantName.{is_tenant_name as names_tenant};
 ghost use Rattle.tenant_stream.specs.Carrying.{HasAmpleHoldsLeft};
 ghost use Rattle.tenant_tables.specs.IsBackedBy.{PreservesOthers};
 ghost use Rattle.tenant_service.specs.ByPlaces.{CopiesOrNot, IsCopy, MayBeCopy, Tells};
-ghost use Rattle.tenant_service.specs.Copying.{copy_refusal};
-ghost use Rattle.tenant_service.specs.HeldObjects.{last_held};
-ghost use Rattle.tenant_service.specs.OneStep.{store};
-ghost use Rattle.tenant_service.specs.Soundness.{IsSoundTenantState};
+ghost use Rattle.tenant_service.specs.{Copying.{copy_refusal}, HeldObjects.{last_held}};
+ghost use Rattle.tenant_service.specs.{OneStep.{store}, Soundness.{IsSoundTenantState}};
 ghost use Rattle.tenant_service.specs.TenantState.{Idle, empty_repository, held_of};
 ghost use Rattle.tenant_service.specs.Tenants.{Accounts, AreSound, Stands, holding_in, holdings};
 

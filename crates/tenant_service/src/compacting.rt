@@ -9,16 +9,15 @@ ghost use Rattle.std.specs.Prelude.{◌≡◌, ◌≢◌, ℕ, List, [], false, 
 ghost use Rattle.std.specs.Str.{bytes_eq};
 ghost use Rattle.export_text.specs.Marking.{reached_flags};
 ghost use Rattle.git_model.specs.Repository.{Repository};
-ghost use Rattle.service_steps.specs.declared.answer.Answer.TheVariants as answer;
 ghost use Rattle.tenant_stream.specs.Carrying.{HasAmpleHoldsLeft};
 ghost use Rattle.tenant_tables.specs.IsBackedBy.{IsBackedBy, PreservesOthers};
-ghost use Rattle.tenant_service.specs.Compacting.{AnswersUnless, AreReached, Compacts, CompactsOne, HasCompacted, IsCompacted, IsSpared, compacted};
-ghost use Rattle.tenant_service.specs.HeldObjects.{last_held};
-ghost use Rattle.tenant_service.specs.OneStep.{store};
+ghost use Rattle.tenant_service.specs.Compacting.{AnswersUnless, AreReached, Compacts, CompactsOne};
+ghost use Rattle.tenant_service.specs.Compacting.{HasCompacted, IsCompacted, IsSpared, compacted};
+ghost use Rattle.tenant_service.specs.{HeldObjects.{last_held}, OneStep.{store}};
 ghost use Rattle.tenant_service.specs.Removing.{removal_refusal, with_stream};
-ghost use Rattle.tenant_service.specs.Soundness.{IsSoundTenantState};
-ghost use Rattle.tenant_service.specs.TenantState.{Idle, held_of};
+ghost use Rattle.tenant_service.specs.{Soundness.{IsSoundTenantState}, TenantState.{Idle, held_of}};
 ghost use Rattle.tenant_service.specs.Tenants.{Accounts, AreSound, Stands, holding_in, holdings};
+ghost use Rattle.service_steps.specs.declared.answer.Answer.TheVariants as answer;
 
 use crate::service::Service;
 use crate::tenant::{Tenant, has_stream};

@@ -4,14 +4,12 @@
 //! `Service::copy_tenant` states. By that law most copies are made by the places of the objects
 //! alone, without the steps, and leave the same.
 
-ghost use Rattle.std.specs.Prelude.{◌≡◌, ℕ, List, None, false};
-ghost use Rattle.std.specs.Str.{bytes_eq};
+ghost use Rattle.std.specs.{Prelude.{◌≡◌, ℕ, List, None, false}, Str.{bytes_eq}};
 ghost use Rattle.content_pool.specs.Pool.{Cells};
 ghost use Rattle.import_session.specs.Session.{repository_in};
-ghost use Rattle.tenant_service.specs.Copying.{HasTaken, IsExport, IsImport};
-ghost use Rattle.tenant_service.specs.Copying.{copy_refusal, first_refusal as first_refused};
-ghost use Rattle.tenant_service.specs.Copying.{has_nothing, held_refusal};
-ghost use Rattle.tenant_service.specs.TenantState.{held_of};
+ghost use Rattle.tenant_service.specs.Copying.{HasTaken, IsExport, IsImport, copy_refusal};
+ghost use Rattle.tenant_service.specs.Copying.{first_refusal as first_refused, has_nothing};
+ghost use Rattle.tenant_service.specs.{Copying.{held_refusal}, TenantState.{held_of}};
 ghost use Rattle.tenant_service.specs.Tenants.{holding_in, holdings};
 
 use crate::service::Service;

@@ -10,16 +10,16 @@ use thiserror::Error;
 pub enum ExtractFault {
     /// The tenant has a stream, even a dead one (31). Nothing is written.
     #[error("fault 31")]
-    StreamIsOpen,
+    StreamIsOpen = 31,
     /// No tenant can have this name (32). Nothing is written.
     #[error("fault 32")]
-    BadTenantName,
+    BadTenantName = 32,
     /// A call of the writer failed (68). A prefix of the file is written.
     #[error("fault 68")]
-    Device,
+    Device = 68,
     /// Memory ran out (90). A prefix of the file may be written.
     #[error("fault 90")]
-    Memory,
+    Memory = 90,
 }
 
 impl ExtractFault {
@@ -27,11 +27,6 @@ impl ExtractFault {
     pub fn code(self) -> u16
         ensures { result ≡ code_of self }
     {
-        match self {
-            ExtractFault::StreamIsOpen => 31,
-            ExtractFault::BadTenantName => 32,
-            ExtractFault::Device => 68,
-            ExtractFault::Memory => 90,
-        }
+        self as u16
     }
 }

@@ -1,18 +1,15 @@
 //! Backups of one tenant: a pool file that has this tenant alone.
 
-ghost use Rattle.std.specs.Prelude.{◌≡◌, ℕ, List, filter, map, false, IfOk, MatchResult, None, Some};
-ghost use Rattle.std.specs.Str.{bytes_eq};
+ghost use Rattle.std.specs.Prelude.{◌≡◌, ℕ, List, filter, map, false, IfOk, MatchResult, None};
+ghost use Rattle.std.specs.{Prelude.{Some}, Str.{bytes_eq}};
 ghost use Rattle.byte_devices.specs.Device.{device_of, seen};
 ghost use Rattle.content_pool.specs.Pool.{Cells};
-ghost use Rattle.pool_file_checks.specs.Repositories.{file_text};
-ghost use Rattle.pool_file_checks.specs.Saving.{IsTextOf};
+ghost use Rattle.pool_file_checks.specs.{Repositories.{file_text}, Saving.{IsTextOf}};
 ghost use Rattle.pool_file.specs.Saves.{Saves};
-ghost use Rattle.tenant_service.specs.Entries.{parts_lent, parts_of};
+ghost use Rattle.tenant_service.specs.{Entries.{parts_lent, parts_of}, HeldObjects.{last_held}};
 ghost use Rattle.tenant_service.specs.Extracting.{Extracts, Writes, extract_refusal, only};
-ghost use Rattle.tenant_service.specs.HeldObjects.{last_held};
-ghost use Rattle.tenant_service.specs.Saved.{IsLoadedFrom, saved_of};
+ghost use Rattle.tenant_service.specs.{Saved.{IsLoadedFrom, saved_of}, Tenants.{holdings}};
 ghost use Rattle.tenant_service.specs.TenantState.{Idle, TenantStates, empty_repository, held_of};
-ghost use Rattle.tenant_service.specs.Tenants.{holdings};
 
 use crate::extract_fault::ExtractFault;
 use crate::removing::is_streaming;

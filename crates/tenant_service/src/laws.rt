@@ -2,21 +2,16 @@
 //! is carried out again: laws over the definitions alone, which run nothing.
 
 ghost use Rattle.std.specs.Prelude.{◌≡◌, ◌≤◌, ℕ, List, [], ◌∷◌, length, Contains, None, Ok};
-ghost use Rattle.git_model.specs.Content.{Content};
-ghost use Rattle.git_model.specs.Repository.{Repository};
+ghost use Rattle.git_model.specs.{Content.{Content}, Repository.{Repository}};
 ghost use Rattle.git_names.specs.Naming.{AnswersNames};
 ghost use Rattle.export_laws.specs.Copies.{CanBeCopied};
 ghost use Rattle.export_text.specs.Export.{export_text};
-ghost use Rattle.import_session.specs.Sound.{IsSoundRepository};
-ghost use Rattle.import_session.specs.Stream.{Running, Step, step};
+ghost use Rattle.import_session.specs.{Sound.{IsSoundRepository}, Stream.{Running, Step, step}};
 ghost use Rattle.stream_lex.specs.Items.{Item};
 ghost use Rattle.pool_file_checks.specs.Repositories.{listed_contents};
-ghost use Rattle.tenant_service.specs.Alone.{Open, Feed, Closed, Streaming};
-ghost use Rattle.tenant_service.specs.Copies.{Takes};
-ghost use Rattle.tenant_service.specs.Growing.{KeepsObjects};
-ghost use Rattle.tenant_service.specs.Headline.{left_alone};
-ghost use Rattle.tenant_service.specs.HeldObjects.{opened_held};
-ghost use Rattle.tenant_service.specs.Saved.{SomebodyHas, saved_of};
+ghost use Rattle.tenant_service.specs.{Alone.{Open, Feed, Closed, Streaming}, Copies.{Takes}};
+ghost use Rattle.tenant_service.specs.{Growing.{KeepsObjects}, Headline.{left_alone}};
+ghost use Rattle.tenant_service.specs.{HeldObjects.{opened_held}, Saved.{SomebodyHas, saved_of}};
 ghost use Rattle.tenant_service.specs.TenantState.{TenantState, TenantStates, Represents};
 
 /// A tenant that has nothing opens a stream, feeds it the export of another repository, and ends
@@ -24,9 +19,9 @@ ghost use Rattle.tenant_service.specs.TenantState.{TenantState, TenantStates, Re
 /// the tenant is left with a copy: the refs and HEAD of the repository, each object that these
 /// reach, with the same name, kind and bytes, and no other object.
 ///
-/// The premises: the repository is sound, as every repository is that a stream leaves; no line and
-/// no data of its export is longer than a stream may have them; its refs are few enough for an
-/// export; and they reach at most 65,536 tags.
+/// The premises: the repository is sound, as every repository is that a stream leaves; each of its
+/// objects, reached by a ref or not, fits into a stream; its refs are few enough for an export; and
+/// they reach at most 65,536 tags.
 pub fn exports_are_taken()
     ensures { (digest : List ℕ → List ℕ) → AnswersNames digest → (repository : Repository)
         → IsSoundRepository digest repository → CanBeCopied repository

@@ -1,9 +1,7 @@
 //! The tenants of a service after a load: each has its repository, and no stream.
 
-ghost use Rattle.std.specs.Prelude.{◌≡◌, ◌++◌, ◌∷◌, [], map, IfOk, OnOk, None};
-ghost use Rattle.std.specs.List.{IsDistinct};
-ghost use Rattle.std.specs.Map.{lookup};
-ghost use Rattle.std.specs.Str.{bytes_eq};
+ghost use Rattle.std.specs.{Prelude.{◌≡◌, ◌++◌, ◌∷◌, [], map, IfOk, OnOk, None}, List.{IsDistinct}};
+ghost use Rattle.std.specs.{Map.{lookup}, Str.{bytes_eq}};
 ghost use Rattle.tenant_service.specs.Entries.{entry_of};
 
 use crate::tenant::{OpenStream, Tenant};

@@ -4,19 +4,16 @@
 //! of them cannot come, those that came before it are taken out again.
 
 ghost use Rattle.std.specs.Prelude.{◌≡◌, ℕ, List, [], true, map, IfOk, OnOk, OnErr, None};
-ghost use Rattle.std.specs.List.{IsDistinct};
-ghost use Rattle.std.specs.Str.{bytes_eq};
+ghost use Rattle.std.specs.{List.{IsDistinct}, Str.{bytes_eq}};
 ghost use Rattle.content_pool.specs.Pool.{Cells};
 ghost use Rattle.pool_file.specs.Worth.{AllStand, named_in};
 ghost use Rattle.tenant_refs.specs.TenantName.{is_tenant_name as names_tenant};
 ghost use Rattle.tenant_stream.specs.Carrying.{HasAmpleHoldsLeft};
 ghost use Rattle.tenant_tables.specs.IsBackedBy.{IsBackedBy, PreservesOthers};
-ghost use Rattle.tenant_service.specs.ByPlaces.{IsKept};
-ghost use Rattle.tenant_service.specs.ComingIn.{HasCome, IsReceived, held_with, held_without, names_lent};
-ghost use Rattle.tenant_service.specs.Copying.{held_refusal};
+ghost use Rattle.tenant_service.specs.{ByPlaces.{IsKept}, ComingIn.{names_lent}, OneStep.{store}};
+ghost use Rattle.tenant_service.specs.ComingIn.{HasCome, IsReceived, held_with, held_without};
+ghost use Rattle.tenant_service.specs.{Copying.{held_refusal}, Removing.{all_but}};
 ghost use Rattle.tenant_service.specs.Merging.{Merges, first_refused, merge_refusal};
-ghost use Rattle.tenant_service.specs.OneStep.{store};
-ghost use Rattle.tenant_service.specs.Removing.{all_but};
 ghost use Rattle.tenant_service.specs.TenantState.{Idle, empty_repository, held_of};
 ghost use Rattle.tenant_service.specs.Tenants.{Accounts, AreSound, holdings};
 

@@ -3,8 +3,7 @@
 
 ghost use Rattle.std.specs.Prelude.{◌≡◌, ℕ, List};
 ghost use Rattle.pool_file_checks.specs.Repositories.{file_text};
-ghost use Rattle.tenant_service.specs.Extracting.{only};
-ghost use Rattle.tenant_service.specs.Merging.{HasMoved, merged};
+ghost use Rattle.tenant_service.specs.{Extracting.{only}, Merging.{HasMoved, merged}};
 ghost use Rattle.tenant_service.specs.Saved.{IsLoadedFrom, saved_of};
 ghost use Rattle.tenant_service.specs.TenantState.{Idle, TenantStates, empty_repository, held_of};
 

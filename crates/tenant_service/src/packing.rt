@@ -5,12 +5,11 @@
 
 ghost use Rattle.std.specs.Prelude.{◌≡◌, [], MatchResult, true, false};
 ghost use Rattle.byte_devices.specs.Device.{device_of, seen};
-ghost use Rattle.pack_objects.specs.Entries.{AppendsAnswer};
-ghost use Rattle.pack_objects.specs.Missing.{TellsMissing};
+ghost use Rattle.pack_objects.specs.{Entries.{AppendsAnswer}, Missing.{TellsMissing}};
 ghost use Rattle.pack_objects.specs.Packs.{WritesPack};
-ghost use Rattle.pack_objects.specs.declared.fault.PackFault.TheVariants as fault;
 ghost use Rattle.tenant_refs.specs.TenantName.{is_tenant_name};
 ghost use Rattle.tenant_service.specs.Packing.{entries_for, last_objects, missing_for, pack_for};
+ghost use Rattle.pack_objects.specs.declared.fault.PackFault.TheVariants as fault;
 
 use crate::service::Service;
 use crate::tenants::name_of;

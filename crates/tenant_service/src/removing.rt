@@ -1,13 +1,12 @@
 //! What the operator takes from a tenant: its stream, or all that is held of it.
 
-ghost use Rattle.std.specs.Prelude.{◌≡◌, ℕ, List, false, None, IsSome, is_some};
-ghost use Rattle.std.specs.Str.{bytes_eq};
+ghost use Rattle.std.specs.{Prelude.{◌≡◌, ℕ, List, false, None, IsSome, is_some}, Str.{bytes_eq}};
 ghost use Rattle.content_pool.specs.Pool.{Cells};
 ghost use Rattle.tenant_service.specs.TenantState.{Idle, empty_repository, held_of};
-ghost use Rattle.tenant_service.specs.HeldObjects.{last_held};
-ghost use Rattle.tenant_service.specs.Tenants.{Accounts, holdings};
+ghost use Rattle.tenant_service.specs.{HeldObjects.{last_held}, Tenants.{Accounts, holdings}};
 ghost use Rattle.tenant_service.specs.OneStep.{store};
-ghost use Rattle.tenant_service.specs.Removing.{Abandons, Removes, abandon_refusal, all_but, answer_unless, removal_refusal, with_stream};
+ghost use Rattle.tenant_service.specs.Removing.{Abandons, Removes, abandon_refusal, all_but};
+ghost use Rattle.tenant_service.specs.Removing.{answer_unless, removal_refusal, with_stream};
 
 use crate::service::Service;
 use crate::tenant::{Tenant, abandon, has_stream, release};

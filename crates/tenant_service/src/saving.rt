@@ -3,8 +3,7 @@
 
 ghost use Rattle.std.specs.Prelude.{◌≡◌, ℕ, List, map, IfOk};
 ghost use Rattle.byte_devices.specs.Device.{device_of, seen};
-ghost use Rattle.pool_file_checks.specs.Repositories.{file_text};
-ghost use Rattle.pool_file_checks.specs.Saving.{IsTextOf};
+ghost use Rattle.pool_file_checks.specs.{Repositories.{file_text}, Saving.{IsTextOf}};
 ghost use Rattle.pool_file.specs.Saves.{Saves};
 ghost use Rattle.tenant_service.specs.Entries.{opened_parts_of, parts_lent, parts_of};
 ghost use Rattle.tenant_service.specs.HeldObjects.{opened_held};

@@ -13,28 +13,25 @@
 //! Each answers `Answer::Ok`, and `out` has what the stream prints: crates/gitpool_tests has an
 //! example, `two_tenants`.
 
-ghost use Rattle.std.specs.Prelude.{◌≡◌, ◌+◌, ◌^◌, ◌++◌, ℕ, List, [], ◌∷◌, length, drop, count_by, true, false, None, IsNone, IsSome, IfOk, IfSome, OnErr, OnOk, map, ◌<◌};
+ghost use Rattle.std.specs.Prelude.{◌≡◌, ◌+◌, ◌^◌, ◌++◌, ℕ, List, [], ◌∷◌, length, drop, count_by};
+ghost use Rattle.std.specs.Prelude.{true, false, None, IsNone, IsSome, IfOk, IfSome, OnErr, OnOk};
+ghost use Rattle.std.specs.{Prelude.{map, ◌<◌}, List.{AllByRecursion, IsDistinct}, Map.{keys_of}};
+ghost use Rattle.std.specs.{Set.{unique_keys}, Str.{bytes_eq}};
 ghost use Rattle.byte_devices.specs.Device.{device_of, calls_of, counted_on, seen};
 ghost use Rattle.content_pool.specs.LiveContents.{live_contents, stored_sizes};
 ghost use Rattle.export_laws.specs.Copies.{CanBeCopied};
-ghost use Rattle.git_model.specs.Content.{same_content};
-ghost use Rattle.git_model.specs.Limits.{reads_limit};
-ghost use Rattle.pool_file_checks.specs.Judging.{IsBlamed};
-ghost use Rattle.pool_file_checks.specs.Repositories.{file_text};
+ghost use Rattle.git_model.specs.{Content.{same_content}, Limits.{reads_limit}};
+ghost use Rattle.pool_file_checks.specs.{Judging.{IsBlamed}, Repositories.{file_text}};
 ghost use Rattle.pool_file_checks.specs.Saving.{IsTextOf};
-ghost use Rattle.std.specs.List.{AllByRecursion, IsDistinct};
-ghost use Rattle.std.specs.Map.{keys_of};
-ghost use Rattle.std.specs.Set.{unique_keys};
-ghost use Rattle.std.specs.Str.{bytes_eq};
 ghost use Rattle.tenant_refs.specs.TenantName.{is_tenant_name};
-ghost use Rattle.tenant_service.specs.Alone.{added, Restart, State};
-ghost use Rattle.tenant_service.specs.Copies.{CopiesAs, StoresAs};
+ghost use Rattle.tenant_service.specs.{Alone.{added, Restart, State}, Copies.{CopiesAs, StoresAs}};
 ghost use Rattle.tenant_service.specs.Copying.{HasTaken, IsCopyRun, IsExport, copy_refusal};
-ghost use Rattle.tenant_service.specs.Headline.{IsIsolated, IsRefused, response_in, told_since, run_of};
-ghost use Rattle.tenant_service.specs.TenantState.{TenantStates, Represents, Idle, empty_repository, held_of};
-ghost use Rattle.tenant_service.specs.Soundness.{IsSoundTenantState};
-ghost use Rattle.tenant_service.specs.HeldObjects.{held_contents, has_committed_object, has_read_done as read_done, last_held};
-ghost use Rattle.tenant_service.specs.HeldSteps.{step_held};
+ghost use Rattle.tenant_service.specs.Headline.{IsIsolated, IsRefused, response_in, told_since};
+ghost use Rattle.tenant_service.specs.{Headline.{run_of}, TenantState.{empty_repository, held_of}};
+ghost use Rattle.tenant_service.specs.TenantState.{TenantStates, Represents, Idle};
+ghost use Rattle.tenant_service.specs.{Soundness.{IsSoundTenantState}, HeldSteps.{step_held}};
+ghost use Rattle.tenant_service.specs.HeldObjects.{held_contents, has_committed_object};
+ghost use Rattle.tenant_service.specs.HeldObjects.{has_read_done as read_done, last_held};
 ghost use Rattle.tenant_service.specs.Kept.{may_change, KeepsOpened};
 ghost use Rattle.tenant_service.specs.Saved.{saved_of, IsLoadedFrom, LoadsAs, LoadsText, LoadsEach};
 ghost use Rattle.tenant_service.specs.Sizes.{sizes_of, sizes_told};
@@ -81,11 +78,10 @@ impl<N: Naming> Drop for Service<N> {
 }
 
 impl<N: Naming> Model for Service<N> {
-    ghost use Rattle.tenant_service.specs.TenantState.{TenantStates};
-    ghost use Rattle.std.specs.Coded.{codes};
-    ghost use Rattle.tenant_service.specs.HeldObjects.{ref_map_code};
-    ghost use Rattle.file_maps.specs.FileMap.{file_map_code};
+    ghost use Rattle.tenant_service.specs.{TenantState.{TenantStates}, HeldObjects.{ref_map_code}};
     ghost use Rattle.tenant_service.specs.Tenants.{IsService, holdings};
+    ghost use Rattle.std.specs.Coded.{codes};
+    ghost use Rattle.file_maps.specs.FileMap.{file_map_code};
 
     ghost Value = { TenantStates };
 
@@ -328,9 +324,9 @@ impl<N: Naming> Service<N> {
     /// `Memory`, in the Feed or the End leaves what of `to` was saved until then, and no stream.
     /// `from` and all other tenants have what they had.
     ///
-    /// If each line and each data of the export fits into a stream, and the refs of `from` are few
-    /// enough for an export and reach at most 65,536 tags, no step is refused: a copy that is not
-    /// refused before its steps is Ok or `Memory`. After Ok, `to` has the refs and HEAD of `from`,
+    /// If each object of `from`, reached by a ref or not, fits into a stream, and the refs of `from`
+    /// are few enough for an export and reach at most 65,536 tags, no step is refused: a copy that
+    /// is not refused before its steps is Ok or `Memory`. After Ok, `to` has the refs and HEAD of `from`,
     /// each object that these reach, with the same name, kind and bytes, and no other object
     /// (`copies`). Then nothing more is stored than before: `stored` answers what it did.
     pub fn copy_tenant(&mut self, from: &[u8], to: &[u8]) -> Answer

@@ -3,14 +3,14 @@
 //! The pool is lent to each call. After the call the pool and the tables agree again (`Accounts`),
 //! and every other tenant has what it had.
 
-ghost use Rattle.std.specs.Prelude.{◌≡◌, ◌<◌, ◌++◌, ◌∷◌, ℕ, List, [], length, OnOk, OnErr, true, false, None, Ok, Err, MatchResult, count_by};
-ghost use Rattle.std.specs.Map.{lookup};
+ghost use Rattle.std.specs.Prelude.{◌≡◌, ◌<◌, ◌++◌, ◌∷◌, ℕ, List, [], length, OnOk, OnErr, true};
+ghost use Rattle.std.specs.{Prelude.{false, None, Ok, Err, MatchResult, count_by}, Map.{lookup}};
 ghost use Rattle.std.specs.Str.{bytes_eq};
 ghost use Rattle.tenant_refs.specs.TenantName.{is_tenant_name as names_tenant};
-ghost use Rattle.tenant_service.specs.Alone.{Open, Feed, End, Ask};
-ghost use Rattle.tenant_stream.specs.Carrying.{HasAmpleHoldsLeft};
+ghost use Rattle.tenant_service.specs.{Alone.{Open, Feed, End, Ask}, OneStep.{restarted_at}};
 ghost use Rattle.tenant_service.specs.Tenants.{Accounts, AreSound, holdings, has_committed};
-ghost use Rattle.tenant_service.specs.OneStep.{store, Calls, Serves, Steps, restarted, restarted_at};
+ghost use Rattle.tenant_service.specs.OneStep.{store, Calls, Serves, Steps, restarted};
+ghost use Rattle.tenant_stream.specs.Carrying.{HasAmpleHoldsLeft};
 
 use crate::tenant::{Tenant, ask, ask_nobody, end, feed, new_tenant, open, restart};
 use content_pool::Pool;

@@ -6,13 +6,12 @@
 
 ghost use Rattle.std.specs.Prelude.{◌≡◌, false, OnErr, OnOk};
 ghost use Rattle.tenant_tables.specs.IsBackedBy.{IsBackedBy};
-ghost use Rattle.stream_commands.specs.Lent.{Keeps};
+ghost use Rattle.stream_commands.specs.{Lent.{Keeps}, Held.{FilesStand}};
 ghost use Rattle.import_session.specs.Session.{repository_in, last_in};
-ghost use Rattle.stream_commands.specs.Held.{FilesStand};
 ghost use Rattle.import_session.specs.Sound.{IsSound, IsSoundRepository};
-ghost use Rattle.tenant_stream.specs.Stopping.{unfed};
-ghost use Rattle.tenant_stream.specs.Carrying.{new_stream, stream_in, held_with, Carries, Feeds, EndsAs, HasAmpleHoldsLeft, IsCommitted};
-ghost use Rattle.tenant_stream.specs.Soundness.{LeavesSound};
+ghost use Rattle.tenant_stream.specs.{Stopping.{unfed}, Soundness.{LeavesSound}};
+ghost use Rattle.tenant_stream.specs.Carrying.{new_stream, stream_in, held_with, Carries, Feeds};
+ghost use Rattle.tenant_stream.specs.Carrying.{EndsAs, HasAmpleHoldsLeft, IsCommitted};
 
 use crate::stream_error::{StreamError, stop_of};
 use content_pool::Pool;

@@ -1,7 +1,8 @@
 //! The object names that begin with some digits lie between two names: the digits with zeros after
 //! them, and the digits with `f`s after them.
 
-ghost use Rattle.std.specs.Prelude.{◌≡◌, ◌≢◌, ◌≤◌, ◌++◌, ◌-◌, ℕ, List, Ok, length, replicate, false, IfNone, IfSome};
+ghost use Rattle.std.specs.Prelude.{◌≡◌, ◌≢◌, ◌≤◌, ◌++◌, ◌-◌, ℕ, List, Ok, length, replicate};
+ghost use Rattle.std.specs.Prelude.{false, IfNone, IfSome};
 ghost use Rattle.hex.specs.Hex.{decode_sized};
 ghost use Rattle.git_model.specs.ObjectName.{IsObjectName};
 ghost use Rattle.tenant_tables.specs.Abbreviation.{begins, Bounds};

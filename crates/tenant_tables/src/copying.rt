@@ -3,10 +3,8 @@
 ghost use Rattle.std.specs.Prelude.{◌≡◌, ℕ, ◌<◌, [], length, slice_index, All, IfOk, OnOk, OnErr};
 ghost use Rattle.std.specs.Bool.{OnTrue};
 ghost use Rattle.git_model.specs.GoodRepository.{AreObjects};
-ghost use Rattle.tenant_tables.specs.IsBackedBy.{IsBackedBy, PreservesOthers};
-ghost use Rattle.tenant_tables.specs.Objects.{objects};
-ghost use Rattle.tenant_tables.specs.Room.{HasHoldsLeftBeside};
-ghost use Rattle.tenant_tables.specs.Copied.{IsCopied, objects_at};
+ghost use Rattle.tenant_tables.specs.{IsBackedBy.{IsBackedBy, PreservesOthers}, Objects.{objects}};
+ghost use Rattle.tenant_tables.specs.{Room.{HasHoldsLeftBeside}, Copied.{IsCopied, objects_at}};
 
 use crate::table::Table;
 use content_pool::Pool;

@@ -1,12 +1,10 @@
 //! Object names with their entries, in the order in which they were added.
 
-ghost use Rattle.std.specs.Prelude.{◌≡◌, ◌≤◌, ◌<◌, [], ◌∷◌, ◌++◌, length, take, filter, None, position, slice_get, is_some, if◌then◌else◌, IfOk, IfSome, OnOk, OnErr};
-ghost use Rattle.std.specs.List.{IsDistinct};
-ghost use Rattle.std.specs.Option.{option_map};
-ghost use Rattle.std.specs.Cow.{cow_slice_items};
+ghost use Rattle.std.specs.Prelude.{◌≡◌, ◌<◌, [], ◌∷◌, ◌++◌, length, take, filter, None, position};
+ghost use Rattle.std.specs.Prelude.{slice_get, is_some, if◌then◌else◌, IfOk, IfSome, OnOk, OnErr};
+ghost use Rattle.std.specs.{List.{IsDistinct}, Option.{option_map}, Cow.{cow_slice_items}};
 ghost use Rattle.std.specs.Str.{bytes_eq};
-ghost use Rattle.git_model.specs.ObjectName.{object_name};
-ghost use Rattle.git_model.specs.Content.{content_from};
+ghost use Rattle.git_model.specs.{ObjectName.{object_name}, Content.{content_from}};
 ghost use Rattle.content_pool.specs.Pool.{HasHoldsLeft, Puts};
 ghost use Rattle.name_index.specs.Index.{is_between, most_shared};
 ghost use Rattle.tenant_tables.specs.Abbreviation.{found_among, only_of};
@@ -34,8 +32,7 @@ pub(crate) struct EntryList {
 }
 
 impl Model for EntryList {
-    ghost use Rattle.tenant_tables.specs.View.{View};
-    ghost use Rattle.tenant_tables.specs.Index.{IsIndexed};
+    ghost use Rattle.tenant_tables.specs.{View.{View}, Index.{IsIndexed}};
 
     ghost Value = { View };
 

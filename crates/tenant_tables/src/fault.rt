@@ -2,6 +2,7 @@
 
 ghost use Rattle.std.specs.Prelude.{◌≡◌};
 ghost use Rattle.tenant_tables.specs.Fault.{fault_code};
+ghost use Rattle.tenant_tables.specs.declared.fault.Fault.TheVariants as fault;
 
 use git_names::Memory;
 use thiserror::Error;
@@ -12,13 +13,13 @@ use thiserror::Error;
 pub enum Fault {
     /// The contents are longer than 134,217,728 bytes, or the table has 4,194,304 objects (25).
     #[error("limit exceeded")]
-    Limit,
+    Limit = 25,
     /// The table has another content under this name (24).
     #[error("object name collision")]
-    NameCollision,
+    NameCollision = 24,
     /// An allocation failed (90).
     #[error("out of memory")]
-    Memory,
+    Memory = 90,
 }
 
 impl Fault {
@@ -26,18 +27,11 @@ impl Fault {
     pub fn code(self) -> u16
         ensures { result ≡ fault_code self }
     {
-        match self {
-            Fault::Limit => 25,
-            Fault::NameCollision => 24,
-            Fault::Memory => 90,
-        }
+        self as u16
     }
 }
 
 impl From<Memory> for Fault {
-    ghost use Rattle.std.specs.Prelude.{◌≡◌};
-    ghost use Rattle.tenant_tables.specs.declared.fault.Fault.TheVariants as fault;
-
     ghost from_gives = { λ _ refused. refused ≡ fault.Memory };
 
     fn from(_refused: Memory) -> Fault {

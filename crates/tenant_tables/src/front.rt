@@ -1,12 +1,9 @@
 //! The first entries of a table, which it may share with others.
 
-ghost use Rattle.std.specs.Prelude.{◌≡◌, ◌<◌, [], length, take, position, slice_get, IfOk, IfErr, IfSome};
-ghost use Rattle.std.specs.List.{IsDistinct};
-ghost use Rattle.std.specs.Option.{option_map};
-ghost use Rattle.std.specs.Str.{bytes_eq};
+ghost use Rattle.std.specs.Prelude.{◌≡◌, ◌<◌, [], length, take, position, slice_get, IfOk, IfErr};
+ghost use Rattle.std.specs.{Option.{option_map}, Str.{bytes_eq}};
 ghost use Rattle.name_index.specs.Index.{most_shared};
-ghost use Rattle.tenant_tables.specs.Abbreviation.{found_among};
-ghost use Rattle.tenant_tables.specs.View.{names, entry_named};
+ghost use Rattle.tenant_tables.specs.{Abbreviation.{found_among}, View.{names, entry_named}};
 
 use crate::entry::Entry;
 use crate::entry_list::EntryList;
@@ -24,8 +21,7 @@ pub(crate) struct Front {
 }
 
 impl Model for Front {
-    ghost use Rattle.std.specs.Prelude.{◌≤◌, [], length, take};
-    ghost use Rattle.std.specs.Option.{option_map_or};
+    ghost use Rattle.std.specs.{Prelude.{◌≤◌, [], length, take}, Option.{option_map_or}};
     ghost use Rattle.tenant_tables.specs.View.{Entries};
 
     ghost Value = { Entries };

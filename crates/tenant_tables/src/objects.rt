@@ -4,14 +4,11 @@
 //! the committed prefix, those of the open stream. Contracts see the list of the objects, oldest
 //! first, and neither the pool nor the table.
 
-ghost use Rattle.std.specs.Prelude.{◌≡◌, length, map, is_some, IfOk};
-ghost use Rattle.std.specs.Option.{option_map};
-ghost use Rattle.git_model.specs.ObjectName.{object_name};
-ghost use Rattle.git_model.specs.Content.{content_from};
+ghost use Rattle.std.specs.{Prelude.{◌≡◌, length, map, is_some, IfOk}, Option.{option_map}};
+ghost use Rattle.git_model.specs.{ObjectName.{object_name}, Content.{content_from}};
 ghost use Rattle.git_model.specs.Repository.{object_named};
 ghost use Rattle.name_index.specs.Index.{most_shared};
-ghost use Rattle.tenant_tables.specs.Abbreviation.{found_among};
-ghost use Rattle.tenant_tables.specs.Objects.{objects};
+ghost use Rattle.tenant_tables.specs.{Abbreviation.{found_among}, Objects.{objects}};
 ghost use Rattle.tenant_tables.specs.IsBackedBy.{IsBackedBy, AreBacked, HasSummary};
 ghost use Rattle.tenant_tables.specs.View.{in_sight, slot_of};
 
@@ -41,8 +38,7 @@ pub struct Objects<'a, N: Naming> {
 impl<'a, N: Naming> Model for Objects<'a, N> {
     ghost use Rattle.std.specs.Prelude.{List};
     ghost use Rattle.git_model.specs.Repository.{Object};
-    ghost use Rattle.tenant_tables.specs.Objects.{objects};
-    ghost use Rattle.tenant_tables.specs.IsBackedBy.{IsBackedBy};
+    ghost use Rattle.tenant_tables.specs.{Objects.{objects}, IsBackedBy.{IsBackedBy}};
     ghost use Rattle.tenant_tables.specs.View.{in_sight};
 
     ghost Value = { List Object };

@@ -2,9 +2,7 @@
 
 ghost use Rattle.std.specs.Prelude.{◌≡◌, ◌<◌, length, slice_get, MatchOption};
 ghost use Rattle.std.specs.Option.{option_map};
-ghost use Rattle.git_model.specs.Content.{content_from};
-ghost use Rattle.git_model.specs.Repository.{Object};
-ghost use Rattle.git_model.specs.References.{place_of};
+ghost use Rattle.git_model.specs.{Content.{content_from}, References.{place_of}};
 
 use crate::objects::Objects;
 use git_model::Kind;

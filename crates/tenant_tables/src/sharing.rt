@@ -1,9 +1,7 @@
 //! Tables that begin with the same objects share them in memory.
 
 ghost use Rattle.std.specs.Prelude.{◌≡◌, ◌≤◌, [], length, take, IfOk, OnErr};
-ghost use Rattle.content_pool.specs.Pool.{Cells, content, holds};
-ghost use Rattle.tenant_tables.specs.IsBackedBy.{IsBackedBy};
-ghost use Rattle.tenant_tables.specs.Room.{HasHoldsLeftBeside};
+ghost use Rattle.tenant_tables.specs.{IsBackedBy.{IsBackedBy}, Room.{HasHoldsLeftBeside}};
 ghost use Rattle.tenant_tables.specs.Sharing.{HoldsMore, Shares};
 
 use crate::entry_list::EntryList;

@@ -1,23 +1,18 @@
 //! The object table of a tenant.
 
-ghost use Rattle.std.specs.Prelude.{◌≡◌, ◌≢◌, ◌<◌, ◌≤◌, ◌+◌, [], length, take, Option, None, Some, position, slice_get, is_some, nat_le, IfOk, OnOk, OnErr};
-ghost use Rattle.std.specs.List.{IsDistinct};
-ghost use Rattle.std.specs.Option.{option_map};
-ghost use Rattle.std.specs.Cow.{cow_slice_items};
+ghost use Rattle.std.specs.Prelude.{◌≡◌, ◌≢◌, ◌<◌, ◌≤◌, ◌+◌, [], length, take, Option, None, Some};
+ghost use Rattle.std.specs.Prelude.{position, slice_get, is_some, nat_le, IfOk, OnOk, OnErr};
+ghost use Rattle.std.specs.{List.{IsDistinct}, Option.{option_map}, Cow.{cow_slice_items}};
 ghost use Rattle.std.specs.Str.{bytes_eq};
-ghost use Rattle.git_model.specs.Limits.{contents_limit, objects_limit};
-ghost use Rattle.git_model.specs.ObjectName.{object_name};
-ghost use Rattle.git_model.specs.Content.{content_from, name_by};
-ghost use Rattle.content_pool.specs.Pool.{HasHoldsLeft, IsLive, Puts, content};
-ghost use Rattle.tenant_tables.specs.View.{names, entry_named, slot_of, summary_of, in_sight};
-ghost use Rattle.git_model.specs.Content.{same_content};
+ghost use Rattle.git_model.specs.{Limits.{contents_limit, objects_limit}, ObjectName.{object_name}};
+ghost use Rattle.git_model.specs.Content.{content_from, name_by, same_content};
 ghost use Rattle.git_model.specs.Repository.{object_named};
-ghost use Rattle.tenant_tables.specs.Objects.{objects};
-ghost use Rattle.tenant_tables.specs.IsBackedBy.{IsBackedBy, PreservesOthers};
+ghost use Rattle.content_pool.specs.Pool.{HasHoldsLeft, IsLive, content};
+ghost use Rattle.tenant_tables.specs.View.{names, entry_named, slot_of, summary_of, in_sight};
+ghost use Rattle.tenant_tables.specs.{Objects.{objects}, IsBackedBy.{IsBackedBy, PreservesOthers}};
 ghost use Rattle.tenant_tables.specs.Adding.{Answers, store_fault, Adds, Pushes, PushesAt};
-ghost use Rattle.tenant_tables.specs.Trees.{FitsTree, SummedAfter};
+ghost use Rattle.tenant_tables.specs.{Trees.{FitsTree, SummedAfter}, Abbreviation.{found_among}};
 ghost use Rattle.name_index.specs.Index.{most_shared};
-ghost use Rattle.tenant_tables.specs.Abbreviation.{found_among};
 
 use crate::entry::Entry;
 use crate::entry_list::EntryList;
@@ -49,8 +44,7 @@ pub struct Table {
 
 impl Model for Table {
     ghost use Rattle.std.specs.Prelude.{◌+◌, ◌++◌, length};
-    ghost use Rattle.tenant_tables.specs.View.{View};
-    ghost use Rattle.tenant_tables.specs.Index.{IsTable};
+    ghost use Rattle.tenant_tables.specs.{View.{View}, Index.{IsTable}};
 
     ghost Value = { View };
 

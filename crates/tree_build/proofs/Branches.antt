@@ -61,6 +61,9 @@ module _ (os : List Object) where
   pub branch_few : (b : Branch) → IsBranch os b → length (root_files os b) ≤ 1048576
   branch_few b h = let n = ap (λ (fs : Listed). length fs) (branch_listed os b h.held) in let few = h.files.few in omega arith
 
+  pub branch_small : (b : Branch) → IsBranch os b → b.files ≤ 1048576
+  branch_small b h = let few = branch_few b h in let all = h.counted in omega arith
+
   -- ---- dropped
 
   module _ (clear : Bool) (path : Path) (some : path ≢ []) (inside : Shape) (tree : Option (List ℕ)) where

@@ -2,7 +2,6 @@
 use Rattle.std.proofs.Common.{◌≡◌, ◌≢◌, ℕ, zero, suc, ◌≤◌, Bool, true, false, cond, List, [], ◌∷◌, ◌++◌, refl, sym, ap, ◌∙◌, subst, arith}
 use Rattle.std.specs.Prelude.{length, take, drop, is_some}
 use Rattle.std.specs.FinMap as finmap
-use Rattle.std.specs.List.{flat_map}
 use Rattle.std.proofs.Math.Seq.{take-append_seam, drop-append_seam}
 use Rattle.std.proofs.lemmas.List.{length-append}
 use Rattle.git_model.specs.declared.file_mode.FileMode.{FileMode}
@@ -16,7 +15,7 @@ use Rattle.file_maps.specs.Edits.{moved, with_files}
 use Rattle.file_maps.specs.StoredFiles.{listed_by, listed_within, stored_files}
 use Rattle.file_maps.specs.StoredTree.{HasTree, file_from, Lists, nothing, first_file, first_directory, ListsTree}
 use Rattle.file_maps.proofs.ListedLater.{has-later, lists-later}
-use Rattle.file_maps.proofs.StoredFiles.{entries-at}
+use Rattle.file_maps.proofs.StoredFiles.{listed_at, level, one_file}
 use Rattle.tree_build.proofs.Later.{held-later}
 use Rattle.tree_build.specs.Shape.{Held, held_files}
 use Rattle.tree_build.specs.Branch.{Branch, files_in, IsHeld, IsBranch}
@@ -62,30 +61,14 @@ moved_once c (x ∷ xs) (y ∷ ys) h =
 
 -- ---- a tree with more levels to go down
 
-abbrev listed_at : List Object → ℕ → List TreeEntry → Listed
-listed_at os n es = flat_map (λ e. listed_by e.mode e (listed_within os n e.id)) es
-
-level : (os : List Object) (n : ℕ) (id : List ℕ) (es : List TreeEntry) → HasTree os id es
-    → listed_within os (suc n) id ≡ listed_at os n es
-unfolding listed_within
-level os n id es h = ap (listed_at os n) (entries-at os id es h)
-
 bottom : (os : List Object) (id : List ℕ) → listed_within os 0 id ≡ []
 unfolding listed_within
 bottom os id = refl
 
-by_file : (m : FileMode) (e : TreeEntry) (b : Listed) → m ≢ mode.Directory
-    → listed_by m e b ≡ file_from e ∷ []
-by_file mode.Directory e b ne = absurd (ne refl)
-by_file mode.Regular e b ne = refl
-by_file mode.Executable e b ne = refl
-by_file mode.Symlink e b ne = refl
-by_file mode.Gitlink e b ne = refl
-
 at_file : (os : List Object) (n : ℕ) (e : TreeEntry) (es : List TreeEntry) → e.mode ≢ mode.Directory
     → listed_at os n (e ∷ es) ≡ file_from e ∷ listed_at os n es
 at_file os n e es ne =
-    ap (λ (r : Listed). r ++ listed_at os n es) (by_file e.mode e (listed_within os n e.id) ne)
+    ap (λ (r : Listed). r ++ listed_at os n es) (one_file e.mode e (listed_within os n e.id) ne)
 
 at_directory : (os : List Object) (n : ℕ) (e : TreeEntry) (es : List TreeEntry)
     → e.mode ≡ mode.Directory

@@ -13,7 +13,7 @@ use Rattle.tree_build.specs.Branch.{IsWhat, IsDirectory}
 use Rattle.tree_build.specs.Nodes.{held, shape_of}
 use Rattle.tree_build.specs.Sums.{IsSmall}
 use Rattle.tree_build.proofs.Named.{Rows}
-use Rattle.tree_build.proofs.Ordered.{shape_below, tree_below}
+use Rattle.tree_build.proofs.Ordered.{shape_below}
 use Rattle.tree_build.proofs.Summing.{first-small, second-small}
 use Rattle.tenant_tables.specs.declared.summary.Summary.{Summary}
 use Rattle.tenant_tables.specs.Trees.{below, one_file, both}
@@ -21,6 +21,7 @@ use Rattle.file_maps.specs.declared.entry.Entry.{Entry}
 use Rattle.file_maps.specs.FileMap.{Listed}
 use Rattle.file_maps.specs.Edits.{moved}
 use Rattle.file_maps.specs.Storable.{files_summary}
+use Rattle.file_maps.proofs.ListedOrder.{tree-below}
 use Rattle.file_maps.proofs.Sums.{same_summary, both-assoc, both-none, none-both, path_summary, files-first, below-one, below-more}
 
 pub files-both : (xs ys : Listed) → files_summary (xs ++ ys)
@@ -100,7 +101,7 @@ pub dir-below : (os : List Object) (w : What) (inside : Shape)
     → IsDirectory w → AllByRecursion (λ f. f.0 ≢ [])
     (what_files (stored_files os) w (shape_files (stored_files os) inside))
 dir-below os (file e) inside s d = absurd d
-dir-below os (unopened id) inside s d = tree_below os id (stored_files os id) s
+dir-below os (unopened id) inside s d = tree-below os id (stored_files os id) s
 dir-below os (opened tree) inside s d = shape_below os inside
 
 pub small-below : (c : List ℕ) (fs : Listed) → AllByRecursion (λ f. f.0 ≢ []) fs

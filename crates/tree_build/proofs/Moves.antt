@@ -1,10 +1,11 @@
 -- Copies and renames on file maps: why they are refused, and what they leave.
 use Rattle.std.proofs.Common.{◌≡◌, ◌≢◌, ℕ, suc, ◌+◌, ◌≤◌, Bool, true, false, ◌&&◌, ◌==◌, cond, leb, [], ◌∷◌, ◌++◌, filter, length, refl, sym, ap, ◌∙◌, subst, arith}
-use Rattle.std.specs.Prelude.{Option, None, Some, Result, Ok, Err, OnOk, is_some, not}
+use Rattle.std.specs.Prelude.{Option, None, Some, Result, Ok, Err, IsErrAnd, OnOk, is_some, not}
 use Rattle.std.specs.FinMap as finmap
 use Rattle.std.specs.List.{AllByRecursion, list_any, list_all}
 use Rattle.std.proofs.lemmas.Bool.{le-leb, ne_eqb}
 use Rattle.std.proofs.lemmas.List.{length-append}
+use Rattle.std.proofs.lemmas.Result.{err_from_is_err_and}
 use Rattle.git_paths.specs.Paths.{IsPath, strip_prefix, joined, is_within_limits}
 use Rattle.file_maps.specs.declared.entry.Entry.{Entry}
 use Rattle.file_maps.specs.declared.fault.Fault.{Fault}
@@ -163,9 +164,9 @@ good-moved m base from to h g path clean few =
     (moved-apart from to (listed m) h.apart)
     (clean-put (moved to (files_at m from)) (put_tree_at base to (files_at m from)) clean few)
 
-pub few-moved : (m : FileMap) (from : Path) → AreFiles (listed m)
-    → length (files_at m from) ≤ 1048576
-few-moved m from h = (small-cut from (listed m) h).files
+pub few-moved : (m : FileMap) (from : Path) → AreFiles (listed m) → (n : ℕ)
+    → n ≡ length (files_at m from) → n ≤ 1048576
+few-moved m from h n is = let few = (small-cut from (listed m) h).files in omega arith
 
 -- the same, of maps and files that are spelled otherwise
 pub good-put : (m base b : FileMap) → b ≡ base → (from to : Path) → AreFiles (listed m)
@@ -191,13 +192,15 @@ another : {T : Type 0} (e : Fault) → e ≢ fault.Memory
     → ◌≢◌ {A = Result T Fault} (Err e) (Err fault.Memory)
 another e ne is = ne (cc is)
 
-pub refused : {A T : Type 0} (r : Result A Fault) (e : Fault) → r ≡ Err e
+-- what the exit of a `?` returns
+pub refused : {A T : Type 0} (r : Result A Fault) (e : Fault) → IsErrAnd r (λ x. x ≡ e)
     → (old new : FileMap) (fs : Listed) (after : FileMap) → (e ≢ fault.Memory → path_fault fs ≡ Some e)
     → (◌≢◌ {A = Result T Fault} (Err e) (Err fault.Memory) → new ≡ old)
     → Edits r old new (move_fault fs after) after
 refused {A = A} {T = T} r e is old new fs after refusal same =
-    subst (λ (x : Result A Fault). Edits x old new (move_fault fs after) after) (sym is)
-    (λ memory. (
+    let failed = err_from_is_err_and r is in
+    subst (λ (x : Result A Fault). Edits x old new (move_fault fs after) after)
+    (sym (failed.1 ∙ ap (λ (x : Fault). Err x) failed.2)) (λ memory. (
       move_fault-is fs after ∙ ap (λ (o : Option Fault). or_many o (finmap.len after)) (refusal memory),
       same (another {T = T} e memory),
     ))

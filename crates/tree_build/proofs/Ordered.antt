@@ -1,13 +1,10 @@
 -- A branch lists its files in the order of a file map: Git's order of direct entries is the order
 -- of whole paths.
-use Rattle.std.proofs.Common.{◌≡◌, ◌≢◌, ℕ, List, [], ◌∷◌, ◌++◌, refl, sym, ap, ◌∙◌}
+use Rattle.std.proofs.Common.{◌≡◌, ℕ, List, [], ◌∷◌, ◌++◌, refl, sym, ap, ◌∙◌}
 use Rattle.std.specs.List.{AllByRecursion}
-use Rattle.std.specs.Ordering.{nat_cmp, ordering_then}
-use Rattle.std.specs.Cmp.{nat_cmp_total}
+use Rattle.std.specs.Ordering.{nat_cmp}
 use Rattle.std.specs.Cmp.Lexicographic.{slice_cmp}
-use Rattle.std.specs.declared.cmp.Ordering.{Ordering}
 use Rattle.std.specs.declared.cmp.Ordering.TheVariants.{Less, Greater}
-use Rattle.std.proofs.lemmas.Cmp.{tied_itself}
 use Rattle.git_model.specs.Repository.{Object}
 use Rattle.git_paths.specs.Paths.{joined}
 use Rattle.file_maps.specs.declared.entry.Entry.{Entry}
@@ -15,10 +12,9 @@ use Rattle.file_maps.specs.FileMap.{Path, Listed, listed}
 use Rattle.file_maps.specs.Edits.{moved}
 use Rattle.file_maps.specs.Storable.{AreInOrder}
 use Rattle.file_maps.specs.StoredFiles.{stored_files}
-use Rattle.file_maps.specs.StoredTree.{ListsTree}
 use Rattle.file_maps.proofs.Apart.{all-map, all-weaker}
-use Rattle.file_maps.proofs.Listing.{IsSound, tree-sound, all-append}
-use Rattle.file_maps.proofs.ListedOrder.{key-falls, tree-in-order, listed-with}
+use Rattle.file_maps.proofs.Listing.{all-append}
+use Rattle.file_maps.proofs.ListedOrder.{IsBelowRoot, key-falls, order-append, order-moved, tree-below, tree-in-order, listed-with}
 use Rattle.file_maps.proofs.Rising.{Bytes, below, mark}
 use Rattle.tree_build.specs.Shape.{What, file, unopened, opened, Shape, none, row, Held, what_files, shape_files, held_files}
 use Rattle.tree_build.specs.Branch.{Branch, root_files, files_in, slash_after, IsNodeBefore, IsBeforeAll, IsWhat, IsRow, IsShape, IsHeld}
@@ -28,49 +24,6 @@ use Rattle.tree_build.specs.Branch.{Branch, root_files, files_in, slash_after, I
 abbrev pub Later : Path → Listed → Type 0
 Later p fs = AllByRecursion (λ g. below (joined p) (joined g.0)) fs
 
-order_append : (xs ys : Listed) → AreInOrder xs → AllByRecursion (λ f. Later f.0 ys) xs
-    → AreInOrder ys → AreInOrder (xs ++ ys)
-order_append [] ys h across k = k
-order_append (x ∷ xs) ys h across k = (
-  all-append (λ (g : Path × Entry). below (joined x.0) (joined g.0)) xs ys h.0 across.0,
-  order_append xs ys h.1 across.1 k,
-)
-
-abbrev pub IsBelow : Path × Entry → Type 0
-IsBelow f = f.0 ≢ []
-
-same_front : (c a b : Bytes) → slice_cmp nat_cmp (c ++ a) (c ++ b) ≡ slice_cmp nat_cmp a b
-same_front [] a b = refl
-same_front (x ∷ c) a b =
-    ap (λ (r : Ordering). ordering_then r (slice_cmp nat_cmp (c ++ a) (c ++ b)))
-    (tied_itself nat_cmp_total x)
-    ∙ same_front c a b
-
-front : (c : Bytes) (p q : Path) → p ≢ [] → q ≢ [] → below (joined p) (joined q)
-    → below (joined (c ∷ p)) (joined (c ∷ q))
-front c [] q np nq h = absurd (np refl)
-front c (x ∷ p) [] np nq h = absurd (nq refl)
-front c (x ∷ p) (y ∷ q) np nq h =
-    same_front c (47 ∷ joined (x ∷ p)) (47 ∷ joined (y ∷ q))
-    ∙ ap (λ (o : Ordering). ordering_then o (slice_cmp nat_cmp (joined (x ∷ p)) (joined (y ∷ q))))
-    (tied_itself nat_cmp_total 47)
-    ∙ h
-
-fronts : (c : Bytes) (p : Path) → p ≢ [] → (fs : Listed) → AllByRecursion IsBelow fs → Later p fs
-    → AllByRecursion (λ g. below (joined (c ∷ p)) (joined (c ∷ g.0))) fs
-fronts c p ne [] s h = tt
-fronts c p ne (f ∷ fs) s h = (front c p f.0 ne s.0 h.0, fronts c p ne fs s.1 h.1)
-
-order_moved : (c : Bytes) (fs : Listed) → AllByRecursion IsBelow fs → AreInOrder fs
-    → AreInOrder (moved (c ∷ []) fs)
-order_moved c [] s h = tt
-order_moved c (f ∷ fs) s h = (
-  all-map (λ (g : Path × Entry). (c ∷ [] ++ g.0, g.1))
-      (λ (g : Path × Entry). below (joined (c ∷ f.0)) (joined g.0)) fs
-      (fronts c f.0 s.0 fs s.1 h.0),
-  order_moved c fs s.1 h.1,
-)
-
 -- ---- what is held
 
 module _ (os : List Object) where
@@ -78,22 +31,18 @@ module _ (os : List Object) where
   known = stored_files os
 
   -- what an opened directory lists stands below it
-  pub shape_below : (s : Shape) → AllByRecursion IsBelow (shape_files known s)
+  pub shape_below : (s : Shape) → AllByRecursion IsBelowRoot (shape_files known s)
   shape_below none = tt
   shape_below (row c w inside rest) =
-      all-append IsBelow (moved (c ∷ []) (what_files known w (shape_files known inside)))
+      all-append IsBelowRoot (moved (c ∷ []) (what_files known w (shape_files known inside)))
       (shape_files known rest) (each (what_files known w (shape_files known inside)))
       (shape_below rest)
     where
-      each : (fs : Listed) → AllByRecursion IsBelow (moved (c ∷ []) fs)
+      each : (fs : Listed) → AllByRecursion IsBelowRoot (moved (c ∷ []) fs)
       each [] = tt
       each (f ∷ fs) = ((λ e. cc e), each fs)
 
-  pub tree_below : (id : List ℕ) (fs : Listed) → ListsTree os id fs → AllByRecursion IsBelow fs
-  tree_below id fs t =
-      all-weaker IsSound IsBelow (λ f s. s.below_the_root) fs (tree-sound os id fs t)
-
-  marks : (fs : Listed) → AllByRecursion IsBelow fs
+  marks : (fs : Listed) → AllByRecursion IsBelowRoot fs
       → AllByRecursion (λ g. mark g.0 ≡ 47 ∷ []) fs
   marks [] h = tt
   marks (([], e) ∷ fs) h = absurd (h.0 refl)
@@ -103,7 +52,7 @@ module _ (os : List Object) where
   pub marked : (w : What) (inside : Shape) → IsWhat os w (shape_files known inside)
       → AllByRecursion (λ g. mark g.0 ≡ slash_after w) (what_files known w (shape_files known inside))
   marked (file e) inside h = (refl, tt)
-  marked (unopened id) inside h = marks (known id) (tree_below id (known id) h)
+  marked (unopened id) inside h = marks (known id) (tree-below os id (known id) h)
   marked (opened tree) inside h = marks (shape_files known inside) (shape_below inside)
 
   before : (c : Bytes) (w : What) (p : Path) (d : Bytes) (v : What) (inside : Listed) → mark p ≡ slash_after w
@@ -138,14 +87,14 @@ module _ (os : List Object) where
       → AreInOrder (moved (c ∷ []) (what_files known w (shape_files known inside)))
   row_in_order c (file e) inside h k = (tt, tt)
   row_in_order c (unopened id) inside h k =
-      order_moved c (known id) (tree_below id (known id) h) (tree-in-order os id (known id) h)
+      order-moved c (known id) (tree-below os id (known id) h) (tree-in-order os id (known id) h)
   row_in_order c (opened tree) inside h k =
-      order_moved c (shape_files known inside) (shape_below inside) k
+      order-moved c (shape_files known inside) (shape_below inside) k
 
   pub shape_in_order : (s : Shape) → IsShape os s → AreInOrder (shape_files known s)
   shape_in_order none h = tt
   shape_in_order (row c w inside rest) h =
-      order_append (moved (c ∷ []) (what_files known w (shape_files known inside)))
+      order-append (moved (c ∷ []) (what_files known w (shape_files known inside)))
       (shape_files known rest) (row_in_order c w inside h.0.sound (shape_in_order inside h.2))
       (all-map (λ (g : Path × Entry). (c ∷ [] ++ g.0, g.1))
       (λ (f : Path × Entry). Later f.0 (shape_files known rest))

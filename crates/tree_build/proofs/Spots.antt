@@ -24,6 +24,11 @@ spot_offset [] p k o h d = absurd h
 spot_offset (v ∷ vs) p zero o h d = h.0
 spot_offset (v ∷ vs) p (suc k) o h d = spot_offset vs (p - length v.entries.items) k o h.1 d
 
+-- where an entry stands, in chunks that were lent
+pub spot_lent : (us vs : Chunks) (p k o : ℕ) → us ≡ vs → IsSpot us p k o → IsSpot vs p k o × (k < length vs)
+spot_lent us vs p k o is h =
+    let there = subst (λ (l : Chunks). IsSpot l p k o) is h in (there, spot_chunk vs p k o there)
+
 get_left : (xs ys : List Row) (i : ℕ) (d : Row) → i < length xs → slice_index_or (xs ++ ys) i d ≡ slice_index_or xs i d
 get_left [] ys i d lt = absurd (omega arith)
 get_left (x ∷ xs) ys zero d lt = refl
@@ -163,12 +168,16 @@ take_set [] c (suc k) w le = refl
 take_set (v ∷ vs) zero (suc k) w le = absurd (omega arith)
 take_set (v ∷ vs) (suc c) (suc k) w le = ap (λ (l : Chunks). v ∷ l) (take_set vs c k w (omega arith))
 
+pub counts_set : (vs us : Chunks) (k : ℕ) (w : Chunk) → k < length vs
+    → take k us ≡ take k (slice_set vs k w) → AreStarts vs → CountsTo k us
+counts_set vs us k w lt front = counts_front vs us k (omega arith) (front ∙ take_set vs k k w (omega arith))
+
 pub take_remove : (vs : Chunks) (c : ℕ) → take c (remove vs c) ≡ take c vs
 take_remove vs zero = refl
 take_remove [] (suc c) = refl
 take_remove (v ∷ vs) (suc c) = ap (λ (l : Chunks). v ∷ l) (take_remove vs c)
 
-pub length_insert : (xs : List Row) (i : ℕ) (x : Row) → i ≤ length xs → length (insert xs i x) ≡ suc (length xs)
+length_insert : (xs : List Row) (i : ℕ) (x : Row) → i ≤ length xs → length (insert xs i x) ≡ suc (length xs)
 length_insert xs zero x le = refl
 length_insert [] (suc i) x le = absurd (omega arith)
 length_insert (y ∷ ys) (suc i) x le = ap suc (length_insert ys i x (omega arith))
@@ -177,6 +186,17 @@ pub length_remove : {A : Type 0} (xs : List A) (i : ℕ) → i < length xs → s
 length_remove [] i lt = absurd (omega arith)
 length_remove (y ∷ ys) zero lt = refl
 length_remove (y ∷ ys) (suc i) lt = ap suc (length_remove ys i (omega arith))
+
+-- how many there are after one more, or one less
+pub len_inserted : (us xs : List Row) (p n : ℕ) (x : Row) → us ≡ insert xs p x
+    → n ≡ length xs + 1 → p + 1 < n → n ≡ length us
+len_inserted us xs p n x is len place =
+    let more = ap (λ (l : List Row). length l) is in
+    let one = length_insert xs p x (omega arith) in omega arith
+
+pub len_removed : (us xs : List Row) (p n : ℕ) → us ≡ remove xs p → n + 1 ≡ length xs → p ≤ n → n ≡ length us
+len_removed us xs p n is len place =
+    let less = ap (λ (l : List Row). length l) is in let one = length_remove xs p (omega arith) in omega arith
 
 -- one chunk changed, that has as many entries as before
 pub before_set : (vs : Chunks) (c k : ℕ) (d w : Chunk)

@@ -134,7 +134,7 @@ module _ (os after : List Object) (grows : Grows os after) (b new : Branch) (bra
   root-stays =
       same-held (stored_files after) new.root b.root same ∙ (held-later os after grows b.root branch.held).0
 
-  pub files-kept : files_in after new ≡ files_in os b
+  files-kept : files_in after new ≡ files_in os b
   unfolding files_in
   files-kept = ap (with_files finmap.empty) root-stays
 
@@ -151,13 +151,16 @@ module _ (os after : List Object) (grows : Grows os after) (b new : Branch) (bra
       own (unopened id) d = d
       own (opened tree) d = d
 
-  pub branch-kept : IsBranch after new
-  branch-kept = record {
-    directory = directory-same new.root.what b.root.what (ap (λ (h : Held). h.what) same) branch.directory;
-    held = sound;
-    counted = files ∙ branch.counted ∙ ap (λ (l : Listed). length l) (sym root-stays);
-    files = subst (λ (m : FileMap). AreFiles (listed m)) (sym files-kept) branch.files;
-  }
+  pub branch-kept : IsBranch after new × (files_in after new ≡ files_in os b)
+  branch-kept = (
+    record {
+      directory = directory-same new.root.what b.root.what (ap (λ (h : Held). h.what) same) branch.directory;
+      held = sound;
+      counted = files ∙ branch.counted ∙ ap (λ (l : Listed). length l) (sym root-stays);
+      files = subst (λ (m : FileMap). AreFiles (listed m)) (sym files-kept) branch.files;
+    },
+    files-kept,
+  )
 
 pub root-storable : (os : List Object) (b : Branch) → IsBranch os b → AreStorable (root_files os b)
 root-storable os b h =

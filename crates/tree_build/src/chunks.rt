@@ -3,9 +3,9 @@
 //! A place counts the entries before an entry. Which chunk it is in only this module knows: each
 //! chunk keeps how many entries stand before it, and a search goes by these numbers.
 
-ghost use Rattle.std.specs.Prelude.{◌≡◌, ◌≤◌, ◌<◌, ◌+◌, ◌++◌, [], ◌∷◌, length, take, slice_index_or, false, IfOk, OnOk, OnErr};
+ghost use Rattle.std.specs.Prelude.{◌≡◌, ◌≤◌, ◌<◌, ◌+◌, ◌++◌, [], ◌∷◌, length, take};
+ghost use Rattle.std.specs.{Prelude.{slice_index_or, false, IfOk, OnOk, OnErr}, Borrow.{sem}};
 ghost use Rattle.std.specs.List.{insert, remove};
-ghost use Rattle.std.specs.Borrow.{sem};
 ghost use Rattle.tree_build.specs.Chunks.{all, before, CountsTo, AreStarts, IsSpot};
 ghost use Rattle.tree_build.specs.Lending.{LendsNode};
 
@@ -48,7 +48,8 @@ fn chunk_of(chunks: &[Chunk], place: usize) -> usize
 fn spot_of(chunks: &[Chunk], place: usize) -> Spot
     requires starts { AreStarts chunks.now }
     requires place { place < length (all chunks.now) }
-    ensures { IsSpot chunks.now place result.chunk result.offset }
+    ensures spot { IsSpot chunks.now place result.chunk result.offset }
+    ensures chunk { result.chunk < length chunks.now }
 {
     let chunk = chunk_of(chunks, place);
     let offset = place - chunks[chunk].start;

@@ -1,12 +1,8 @@
 //! Copies of nodes. A directory that is a stored tree is copied by the name of that tree.
 
-ghost use Rattle.std.specs.Prelude.{◌≡◌, Some, IfOk};
-ghost use Rattle.std.specs.Option.{option_map};
-ghost use Rattle.tree_build.specs.Shape.{opened};
-ghost use Rattle.tree_build.specs.Nodes.{held, shape_of};
-ghost use Rattle.tree_build.specs.Searches.{AreOrdered};
-ghost use Rattle.tree_build.specs.Editing.{child};
-ghost use Rattle.tree_build.specs.Moving.{standing, copied_shape, copied_held};
+ghost use Rattle.std.specs.{Prelude.{◌≡◌, Some, IfOk}, Option.{option_map}};
+ghost use Rattle.tree_build.specs.{Shape.{opened}, Nodes.{held, shape_of}, Searches.{AreOrdered}};
+ghost use Rattle.tree_build.specs.{Editing.{child}, Moving.{standing, copied_shape, copied_held}};
 
 use crate::dir::{Dir, Entries, Node};
 use crate::names::place_of;

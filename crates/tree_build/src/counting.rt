@@ -2,12 +2,9 @@
 
 ghost use Rattle.std.specs.Prelude.{◌≡◌, ◌≤◌, length, Some};
 ghost use Rattle.git_model.specs.Limits.{files_limit};
-ghost use Rattle.file_maps.specs.StoredFiles.{stored_files};
-ghost use Rattle.file_maps.specs.StoredTree.{ListsTree};
-ghost use Rattle.tree_build.specs.Shape.{shape_files, held_files};
-ghost use Rattle.tree_build.specs.Branch.{IsShape, IsHeld};
-ghost use Rattle.tree_build.specs.Nodes.{held, shape_of};
-ghost use Rattle.tree_build.specs.Editing.{entries_in, taken, taken_at};
+ghost use Rattle.file_maps.specs.{StoredFiles.{stored_files}, StoredTree.{ListsTree}};
+ghost use Rattle.tree_build.specs.{Shape.{shape_files, held_files}, Branch.{IsShape, IsHeld}};
+ghost use Rattle.tree_build.specs.{Nodes.{held, shape_of}, Editing.{entries_in, taken, taken_at}};
 
 use crate::dir::{Entries, Node};
 use crate::names::place_of;

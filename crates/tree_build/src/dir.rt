@@ -1,8 +1,7 @@
 //! Opened directories and their entries.
 
 ghost use Rattle.std.specs.Prelude.{◌≡◌, None};
-ghost use Rattle.tree_build.specs.Shape.{none};
-ghost use Rattle.tree_build.specs.Editing.{is_none};
+ghost use Rattle.tree_build.specs.{Shape.{none}, Editing.{is_none}};
 
 use crate::component::Component;
 use file_maps::Entry;
@@ -54,8 +53,7 @@ pub(crate) enum Node {
 }
 
 impl Model for Entries {
-    ghost use Rattle.std.specs.Prelude.{◌≡◌, length};
-    ghost use Rattle.std.specs.Coded.{codes};
+    ghost use Rattle.std.specs.{Prelude.{◌≡◌, length}, Coded.{codes}};
     ghost use Rattle.tree_build.specs.ShapeCode.{directory_code};
     ghost use Rattle.tree_build.specs.Chunks.{Listing, all, AreStarts, listing_size};
 

@@ -3,11 +3,8 @@
 //! A directory that loses its last file is removed from its parent. The caller has opened the
 //! directories on the way.
 
-ghost use Rattle.std.specs.Prelude.{◌≡◌, ◌≢◌, [], Some, None, if◌then◌else◌};
-ghost use Rattle.std.specs.Option.{option_map};
-ghost use Rattle.tree_build.specs.Shape.{opened};
-ghost use Rattle.tree_build.specs.Nodes.{held, shape_of};
-ghost use Rattle.tree_build.specs.Searches.{AreOrdered};
+ghost use Rattle.std.specs.{Prelude.{◌≡◌, ◌≢◌, [], Some, None, if◌then◌else◌}, Option.{option_map}};
+ghost use Rattle.tree_build.specs.{Shape.{opened}, Nodes.{held, shape_of}, Searches.{AreOrdered}};
 ghost use Rattle.tree_build.specs.Editing.{child, entries_in, left, put_back, dropped};
 ghost use Rattle.tree_build.specs.Moving.{standing, rest_of};
 

@@ -1,21 +1,18 @@
 //! Edits of a branch. An edit first opens the directories on the way to its path.
 
-ghost use Rattle.std.specs.Prelude.{◌≡◌, ◌≢◌, ◌≤◌, ◌<◌, ◌+◌, [], ◌∷◌, ◌++◌, true, length, None, Err, OnOk};
-ghost use Rattle.std.specs.FinMap as finmap;
-ghost use Rattle.tenant_tables.specs.Objects.{objects};
-ghost use Rattle.tenant_tables.specs.IsBackedBy.{IsBackedBy};
-ghost use Rattle.file_maps.specs.declared.fault.Fault.TheVariants as fault;
+ghost use Rattle.std.specs.Prelude.{◌≡◌, ◌≢◌, ◌≤◌, ◌<◌, ◌+◌, [], ◌∷◌, ◌++◌, true, length, None};
+ghost use Rattle.std.specs.Prelude.{Err, OnOk};
+ghost use Rattle.tenant_tables.specs.{Objects.{objects}, IsBackedBy.{IsBackedBy}};
 ghost use Rattle.file_maps.specs.Edits.{without, moved, put_at, put_tree_at, put_fault};
-ghost use Rattle.git_model.specs.declared.file_mode.FileMode.TheVariants as mode;
-ghost use Rattle.git_model.specs.Limits.{files_limit};
-ghost use Rattle.git_model.specs.ObjectName.{IsObjectName};
+ghost use Rattle.file_maps.specs.{FileMap.{Path as FilePath}, Calls.{Edits}};
+ghost use Rattle.git_model.specs.{Limits.{files_limit}, ObjectName.{IsObjectName}};
 ghost use Rattle.git_paths.specs.Paths.{is_within_limits};
-ghost use Rattle.file_maps.specs.FileMap.{Path as FilePath};
-ghost use Rattle.tree_build.specs.Nodes.{held};
-ghost use Rattle.file_maps.specs.Calls.{Edits};
+ghost use Rattle.tree_build.specs.{Nodes.{held}, Opened.{is_kept, too_many}};
 ghost use Rattle.tree_build.specs.Branch.{files_in, IsBranch, CountsAtMost, closed_from};
-ghost use Rattle.tree_build.specs.Opened.{is_kept, too_many};
 ghost use Rattle.tree_build.specs.Replacing.{MayPut, PutsNode};
+ghost use Rattle.std.specs.FinMap as finmap;
+ghost use Rattle.file_maps.specs.declared.fault.Fault.TheVariants as fault;
+ghost use Rattle.git_model.specs.declared.file_mode.FileMode.TheVariants as mode;
 
 use crate::component::has_components;
 use crate::counting::taken;

@@ -1,13 +1,10 @@
 //! What is at a path of a branch. An unopened directory on the way is read, and stays unopened.
 
 ghost use Rattle.std.specs.Prelude.{◌≡◌, ◌≢◌, [], ◌∷◌, Some, IfOk};
-ghost use Rattle.tenant_tables.specs.Objects.{objects};
-ghost use Rattle.tenant_tables.specs.IsBackedBy.{IsBackedBy};
-ghost use Rattle.file_maps.specs.StoredFiles.{stored_files};
-ghost use Rattle.file_maps.specs.Trees.{tree_id, entry_at};
-ghost use Rattle.tree_build.specs.Shape.{shape_files, held_files};
+ghost use Rattle.tenant_tables.specs.{Objects.{objects}, IsBackedBy.{IsBackedBy}};
+ghost use Rattle.file_maps.specs.{StoredFiles.{stored_files}, Trees.{tree_id, entry_at}};
+ghost use Rattle.tree_build.specs.{Shape.{shape_files, held_files}, Nodes.{held, shape_of}};
 ghost use Rattle.tree_build.specs.Branch.{IsDirectory, IsShape, IsHeld, IsBranch, files_in};
-ghost use Rattle.tree_build.specs.Nodes.{held, shape_of};
 ghost use Rattle.tree_build.specs.Standing.{stands_at};
 
 use crate::dir::{Entries, Node};

@@ -3,13 +3,10 @@
 //! This is known for a stored tree, so only edited directories are walked.
 
 ghost use Rattle.std.specs.Prelude.{◌≡◌, [], ◌∷◌};
-ghost use Rattle.file_maps.specs.Edits.{moved};
-ghost use Rattle.file_maps.specs.Storable.{files_summary};
+ghost use Rattle.file_maps.specs.{Edits.{moved}, Storable.{files_summary}};
 ghost use Rattle.file_maps.specs.StoredFiles.{stored_files};
-ghost use Rattle.tree_build.specs.Shape.{opened, shape_files, held_files};
-ghost use Rattle.tree_build.specs.Branch.{IsShape, IsHeld};
-ghost use Rattle.tree_build.specs.Nodes.{held, shape_of};
-ghost use Rattle.tree_build.specs.Sums.{IsSmall};
+ghost use Rattle.tree_build.specs.{Shape.{opened, shape_files, held_files}, Nodes.{held, shape_of}};
+ghost use Rattle.tree_build.specs.{Branch.{IsShape, IsHeld}, Sums.{IsSmall}};
 
 use crate::dir::{Dir, Entries, Node};
 use crate::sums::{below, both, no_files, one_file};

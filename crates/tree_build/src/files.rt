@@ -5,10 +5,10 @@
 //! it.
 
 ghost use Rattle.std.specs.Prelude.{◌≡◌, ◌≤◌, List, length};
-ghost use Rattle.std.specs.FinMap as map;
 ghost use Rattle.git_model.specs.Repository.{Object};
 ghost use Rattle.file_maps.specs.FileMap.{Path};
 ghost use Rattle.tree_build.specs.Branch.{files_in, IsBranch, root_name, closed_from};
+ghost use Rattle.std.specs.FinMap as map;
 
 use crate::dir::{Dir, Node};
 use git_objects::Name;
@@ -46,8 +46,7 @@ impl Drop for Files {
 }
 
 impl Model for Files {
-    ghost use Rattle.tree_build.specs.Branch.{Branch};
-    ghost use Rattle.tree_build.specs.ShapeCode.{branch_code};
+    ghost use Rattle.tree_build.specs.{Branch.{Branch}, ShapeCode.{branch_code}};
 
     ghost Value = { Branch };
 

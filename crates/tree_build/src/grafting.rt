@@ -1,19 +1,15 @@
 //! Putting a stored tree at a path of a branch, by its name. The tree is not read.
 
-ghost use Rattle.std.specs.Prelude.{◌≡◌, ◌≢◌, ◌≤◌, ◌+◌, true, [], length, Some, None, Err, IsTrue, OnOk, ◌↔◌};
-ghost use Rattle.tenant_tables.specs.Objects.{objects};
-ghost use Rattle.tenant_tables.specs.IsBackedBy.{IsBackedBy};
-ghost use Rattle.file_maps.specs.declared.fault.Fault.TheVariants as fault;
+ghost use Rattle.std.specs.Prelude.{◌≡◌, ◌≢◌, ◌≤◌, ◌+◌, true, [], length, Some, None, Err, IsTrue};
+ghost use Rattle.std.specs.Prelude.{OnOk, ◌↔◌};
+ghost use Rattle.tenant_tables.specs.{Objects.{objects}, IsBackedBy.{IsBackedBy}};
 ghost use Rattle.git_paths.specs.Paths.{strip_prefix};
-ghost use Rattle.file_maps.specs.Calls.{Edits};
-ghost use Rattle.file_maps.specs.FileMap.{Path as FilePath};
-ghost use Rattle.file_maps.specs.Edits.{moved, put_tree_at, put_fault};
-ghost use Rattle.file_maps.specs.Grafts.{Grafts};
-ghost use Rattle.file_maps.specs.Storable.{files_summary};
-ghost use Rattle.file_maps.specs.StoredFiles.{stored_files};
-ghost use Rattle.file_maps.specs.StoredTree.{ListsTree};
+ghost use Rattle.file_maps.specs.{Calls.{Edits}, FileMap.{Path as FilePath}, Grafts.{Grafts}};
+ghost use Rattle.file_maps.specs.{Edits.{moved, put_tree_at, put_fault}, Storable.{files_summary}};
+ghost use Rattle.file_maps.specs.{StoredFiles.{stored_files}, StoredTree.{ListsTree}};
 ghost use Rattle.tree_build.specs.Branch.{files_in, IsBranch, root_name, CountsAtMost, closed_from};
 ghost use Rattle.tree_build.specs.Limits.{may_stand, TakesTree};
+ghost use Rattle.file_maps.specs.declared.fault.Fault.TheVariants as fault;
 
 use crate::component::has_components;
 use crate::dir::Node;

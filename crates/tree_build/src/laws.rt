@@ -1,10 +1,8 @@
 //! Laws of branches: functions over the definitions alone, which run nothing.
 
 ghost use Rattle.std.specs.Prelude.{◌≡◌, ◌≤◌, ℕ, List, length};
-ghost use Rattle.git_model.specs.Content.{Content};
-ghost use Rattle.git_model.specs.Repository.{Object, with_object};
-ghost use Rattle.tree_build.specs.Branch.{Branch, IsBranch, files_in, closed_from};
-ghost use Rattle.tree_build.specs.Shape.{Held};
+ghost use Rattle.git_model.specs.{Content.{Content}, Repository.{Object, with_object}};
+ghost use Rattle.tree_build.specs.{Branch.{Branch, IsBranch, files_in, closed_from}, Shape.{Held}};
 ghost use Rattle.file_maps.specs.FileMap.{Path};
 
 /// An object that is added to the table does not change a branch: `IsBranch` still holds, and the

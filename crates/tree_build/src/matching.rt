@@ -1,14 +1,11 @@
 //! Directories that are stored trees again, as after `clear` and the same files.
 
-ghost use Rattle.std.specs.Prelude.{◌≡◌, ◌++◌, true, codes, Some, IfSome};
+ghost use Rattle.std.specs.{Prelude.{◌≡◌, ◌++◌, true, codes, Some, IfSome}, List.{AllByRecursion}};
 ghost use Rattle.git_model.specs.Tree.{mode_digits, entry_text, tree_contents};
-ghost use Rattle.git_model.specs.ObjectName.{IsObjectName};
-ghost use Rattle.git_model.specs.Repository.{object_named};
+ghost use Rattle.git_model.specs.{ObjectName.{IsObjectName}, Repository.{object_named}};
 ghost use Rattle.git_objects.specs.Parts.{entry_of};
-ghost use Rattle.std.specs.List.{AllByRecursion};
 ghost use Rattle.file_maps.specs.Trees.{tree_content};
-ghost use Rattle.tree_build.specs.Nodes.{shape_of};
-ghost use Rattle.tree_build.specs.Stores.{AreNamed, entries_of_shape};
+ghost use Rattle.tree_build.specs.{Nodes.{shape_of}, Stores.{AreNamed, entries_of_shape}};
 
 use crate::component::Component;
 use crate::dir::{Dir, Entries, Node};

@@ -3,26 +3,22 @@
 //! An edited directory is copied entry by entry, any other by the name of its tree. A rename copies
 //! nothing: it moves the node.
 
-ghost use Rattle.std.specs.Prelude.{◌≡◌, ◌≢◌, ◌≤◌, ◌+◌, [], length, None, Some, Err, IfOk, IsTrue, IfErr, OnOk};
-ghost use Rattle.std.specs.Option.{option_map};
-ghost use Rattle.std.specs.FinMap as finmap;
+ghost use Rattle.std.specs.Prelude.{◌≡◌, ◌≢◌, ◌≤◌, ◌+◌, [], length, None, Some, Err, IfOk, IsTrue};
+ghost use Rattle.std.specs.{Prelude.{IfErr, OnOk}, Option.{option_map}};
 ghost use Rattle.git_model.specs.Limits.{files_limit};
 ghost use Rattle.git_paths.specs.Paths.{strip_prefix};
-ghost use Rattle.tenant_tables.specs.Objects.{objects};
-ghost use Rattle.tenant_tables.specs.IsBackedBy.{IsBackedBy};
-ghost use Rattle.file_maps.specs.declared.fault.Fault.TheVariants as fault;
-ghost use Rattle.file_maps.specs.Calls.{Edits};
+ghost use Rattle.tenant_tables.specs.{Objects.{objects}, IsBackedBy.{IsBackedBy}};
+ghost use Rattle.file_maps.specs.{Calls.{Edits}, FileMap.{Path as FilePath, AreFiles, listed}};
 ghost use Rattle.file_maps.specs.Edits.{files_at, moved, put_tree_at, copied, renamed, move_fault};
-ghost use Rattle.file_maps.specs.FileMap.{Path as FilePath, AreFiles, listed};
 ghost use Rattle.file_maps.specs.StoredFiles.{stored_files};
-ghost use Rattle.tree_build.specs.Shape.{held_files};
-ghost use Rattle.tree_build.specs.Branch.{files_in, IsDirectory, IsHeld, IsBranch, CountsAtMost, closed_from};
-ghost use Rattle.tree_build.specs.Nodes.{held};
-ghost use Rattle.tree_build.specs.Searches.{AreOrdered};
-ghost use Rattle.tree_build.specs.Opened.{too_many};
+ghost use Rattle.tree_build.specs.{Shape.{held_files}, Branch.{closed_from}, Nodes.{held}};
+ghost use Rattle.tree_build.specs.Branch.{files_in, IsDirectory, IsHeld, IsBranch, CountsAtMost};
+ghost use Rattle.tree_build.specs.{Searches.{AreOrdered}, Opened.{too_many}, Sums.{IsSmall}};
 ghost use Rattle.tree_build.specs.Replacing.{MayPut, PutsNode};
-ghost use Rattle.tree_build.specs.Moving.{standing, rest_of, IsNoLonger, has_entries, IsMoved, path_fault, summary_fault};
-ghost use Rattle.tree_build.specs.Sums.{IsSmall};
+ghost use Rattle.tree_build.specs.Moving.{standing, rest_of, IsNoLonger, has_entries, IsMoved};
+ghost use Rattle.tree_build.specs.Moving.{path_fault, summary_fault};
+ghost use Rattle.std.specs.FinMap as finmap;
+ghost use Rattle.file_maps.specs.declared.fault.Fault.TheVariants as fault;
 
 use crate::component::has_components;
 use crate::copying::{copy_at, find_at};

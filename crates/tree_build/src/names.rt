@@ -5,14 +5,13 @@
 //! first as the name of a directory, which Git's order ends with a slash, and then as that of a
 //! file.
 
-ghost use Rattle.std.specs.Prelude.{◌≡◌, ◌≤◌, ◌<◌, ◌-◌, ◌++◌, length, position, true, false, Some, OnOk, MatchOption};
-ghost use Rattle.std.specs.Option.{option_map};
+ghost use Rattle.std.specs.Prelude.{◌≡◌, ◌≤◌, ◌<◌, ◌-◌, ◌++◌, length, position, true, false, Some};
+ghost use Rattle.std.specs.{Prelude.{OnOk, MatchOption}, Option.{option_map}};
 ghost use Rattle.git_model.specs.Tree.{order_key, slash_of};
 ghost use Rattle.git_objects.specs.Parts.{entry_of};
-ghost use Rattle.tree_build.specs.Branch.{slash_after};
-ghost use Rattle.tree_build.specs.Editing.{child, inserted, removed};
-ghost use Rattle.tree_build.specs.Nodes.{held, shape_of, has_name};
-ghost use Rattle.tree_build.specs.Searches.{AreOrdered, is_after, IsPlaceAfter, IsNotLast, HasNone, place_found};
+ghost use Rattle.tree_build.specs.{Branch.{slash_after}, Editing.{child, inserted, removed}};
+ghost use Rattle.tree_build.specs.{Nodes.{held, shape_of, has_name}, Searches.{place_found}};
+ghost use Rattle.tree_build.specs.Searches.{AreOrdered, is_after, IsPlaceAfter, IsNotLast, HasNone};
 
 use crate::component::Component;
 use crate::dir::{Entries, Node};

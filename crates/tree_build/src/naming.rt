@@ -1,14 +1,12 @@
 //! The names of the trees of opened directories, without storing them.
 
 ghost use Rattle.std.specs.Prelude.{◌≡◌, ◌≢◌, [], Some, IfOk, OnOk};
-ghost use Rattle.git_model.specs.declared.file_mode.FileMode.TheVariants as mode;
 ghost use Rattle.git_objects.specs.Parts.{entry_of, entries_of};
 ghost use Rattle.file_maps.specs.StoredFiles.{stored_files};
 ghost use Rattle.file_maps.specs.Trees.{tree_entries, tree_id, tree_name};
-ghost use Rattle.tree_build.specs.Shape.{opened, shape_files, held_files};
-ghost use Rattle.tree_build.specs.Branch.{IsShape, IsHeld};
-ghost use Rattle.tree_build.specs.Nodes.{held, shape_of};
-ghost use Rattle.tree_build.specs.Standing.{stands_at};
+ghost use Rattle.tree_build.specs.{Shape.{opened, shape_files, held_files}, Nodes.{held, shape_of}};
+ghost use Rattle.tree_build.specs.{Branch.{IsShape, IsHeld}, Standing.{stands_at}};
+ghost use Rattle.git_model.specs.declared.file_mode.FileMode.TheVariants as mode;
 
 use crate::component::Component;
 use crate::dir::{Dir, Entries, Node};

@@ -1,14 +1,12 @@
 //! Opening directories: the direct entries are read, and the directories among them stay unopened.
 
-ghost use Rattle.std.specs.Prelude.{◌≡◌, Some, IsSome, All, IfOk, OnOk};
+ghost use Rattle.std.specs.Prelude.{◌≡◌, Some, All, IfOk, OnOk};
 ghost use Rattle.git_model.specs.Tree.{IsEntryName, CanWriteEntry};
 ghost use Rattle.git_objects.specs.Parts.{entry_of, entries_of};
-ghost use Rattle.file_maps.specs.StoredTree.{ListsTree};
-ghost use Rattle.file_maps.specs.StoredFiles.{stored_files};
-ghost use Rattle.tree_build.specs.Shape.{shape_files};
+ghost use Rattle.file_maps.specs.{StoredTree.{ListsTree}, StoredFiles.{stored_files}};
 ghost use Rattle.tree_build.specs.Branch.{IsShape, IsHeld, closed_along, closed_from};
-ghost use Rattle.tree_build.specs.Nodes.{held, shape_of};
-ghost use Rattle.tree_build.specs.Opened.{entry_held, tree_shape, IsOpening, OpensAlong, OpensHeld, ReadsMore};
+ghost use Rattle.tree_build.specs.{Nodes.{held, shape_of}, Opened.{ReadsMore}};
+ghost use Rattle.tree_build.specs.Opened.{entry_held, tree_shape, IsOpening, OpensAlong, OpensHeld};
 
 use crate::component::Component;
 use crate::dir::{Dir, Entries, Node};

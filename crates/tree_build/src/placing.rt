@@ -5,9 +5,9 @@
 
 ghost use Rattle.std.specs.Prelude.{◌≡◌, ◌≢◌, [], true, false, position, None, OnOk, MatchOption};
 ghost use Rattle.git_paths.specs.Paths.{IsComponent};
-ghost use Rattle.tree_build.specs.Nodes.{held, shape_of, has_name};
-ghost use Rattle.tree_build.specs.Searches.{AreOrdered};
-ghost use Rattle.tree_build.specs.Editing.{child, removed, inserted, new_directory, has_opened, is_opened, entries_in, put_next, placed};
+ghost use Rattle.tree_build.specs.{Nodes.{held, shape_of, has_name}, Searches.{AreOrdered}};
+ghost use Rattle.tree_build.specs.Editing.{child, removed, inserted, new_directory, has_opened};
+ghost use Rattle.tree_build.specs.Editing.{is_opened, entries_in, put_next, placed};
 
 use crate::component::{Component, has_components};
 use crate::dir::{Dir, Entries, Node};

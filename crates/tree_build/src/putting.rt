@@ -7,13 +7,12 @@ ghost use Rattle.std.specs.Prelude.{◌≡◌, ◌≢◌, ◌≤◌, [], length,
 ghost use Rattle.git_model.specs.Limits.{files_limit};
 ghost use Rattle.git_paths.specs.Paths.{IsComponent};
 ghost use Rattle.file_maps.specs.StoredFiles.{stored_files};
-ghost use Rattle.tree_build.specs.Shape.{Held, shape_files, held_files};
+ghost use Rattle.tree_build.specs.{Shape.{Held, shape_files, held_files}, Opened.{ReadsMore}};
 ghost use Rattle.tree_build.specs.Branch.{IsDirectory, IsShape, IsHeld, closed_along, closed_from};
-ghost use Rattle.tree_build.specs.Nodes.{held, shape_of, has_name};
+ghost use Rattle.tree_build.specs.{Nodes.{held, shape_of, has_name}, Putting.{PutsHeld}};
 ghost use Rattle.tree_build.specs.Searches.{AreOrdered, IsPlaceAfter};
 ghost use Rattle.tree_build.specs.Editing.{child, inserted, removed, is_opened};
-ghost use Rattle.tree_build.specs.Opened.{ReadsMore};
-ghost use Rattle.tree_build.specs.Putting.{file_held, new_node, has_more, leads_into, PutsAlong, PutsHeld};
+ghost use Rattle.tree_build.specs.Putting.{file_held, new_node, has_more, leads_into, PutsAlong};
 
 use crate::component::{Component, has_components};
 use crate::counting::count;

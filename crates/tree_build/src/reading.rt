@@ -1,11 +1,8 @@
 //! What is at a path of a stored tree.
 
-ghost use Rattle.std.specs.Prelude.{◌≡◌, ◌≤◌, ◌+◌, ◌∷◌, length, IfOk};
-ghost use Rattle.std.specs.Option.{option_map};
+ghost use Rattle.std.specs.{Prelude.{◌≡◌, ◌≤◌, ◌+◌, ◌∷◌, length, IfOk}, Option.{option_map}};
 ghost use Rattle.git_objects.specs.Parts.{entries_of};
-ghost use Rattle.file_maps.specs.ByComponent.{what};
-ghost use Rattle.file_maps.specs.Edits.{cut};
-ghost use Rattle.file_maps.specs.StoredFiles.{stored_files};
+ghost use Rattle.file_maps.specs.{ByComponent.{what}, Edits.{cut}, StoredFiles.{stored_files}};
 ghost use Rattle.file_maps.specs.StoredTree.{ListsTree};
 ghost use Rattle.tree_build.specs.Standing.{stands_at, row_named, IsRow, IsFoundAt};
 

@@ -2,19 +2,15 @@
 //! unopened.
 
 ghost use Rattle.std.specs.Prelude.{◌≡◌, ◌≤◌, ◌+◌, [], ◌∷◌, length, None, Some, IfOk};
-ghost use Rattle.tenant_tables.specs.Objects.{objects};
-ghost use Rattle.tenant_tables.specs.IsBackedBy.{IsBackedBy, PreservesOthers};
-ghost use Rattle.file_maps.specs.FileMap.{Path, Listed};
-ghost use Rattle.file_maps.specs.Edits.{cut, files_at};
+ghost use Rattle.tenant_tables.specs.{Objects.{objects}, IsBackedBy.{IsBackedBy, PreservesOthers}};
+ghost use Rattle.file_maps.specs.{FileMap.{Path, Listed}, Edits.{cut, files_at}};
 ghost use Rattle.file_maps.specs.Trees.{nested_trees, tree_id, tree_name, file_of};
-ghost use Rattle.file_maps.specs.Storable.{AreStorable};
-ghost use Rattle.file_maps.specs.StoredFiles.{stored_files};
-ghost use Rattle.file_maps.specs.StoredTree.{ListsTree};
+ghost use Rattle.file_maps.specs.{Storable.{AreStorable}, StoredFiles.{stored_files}};
 ghost use Rattle.file_maps.specs.Storing.{StoresTrees, HasHoldsLeftBeside};
-ghost use Rattle.tree_build.specs.Shape.{shape_files, held_files};
-ghost use Rattle.tree_build.specs.Branch.{IsDirectory, IsShape, IsHeld, IsBranch, files_in, root_name, known_tree, closed_along, closed_from, CountsAtMost};
-ghost use Rattle.tree_build.specs.Nodes.{held, shape_of};
-ghost use Rattle.tree_build.specs.Standing.{IsFoundAt};
+ghost use Rattle.tree_build.specs.{Shape.{shape_files, held_files}, Branch.{CountsAtMost}};
+ghost use Rattle.tree_build.specs.Branch.{IsDirectory, IsShape, IsHeld, IsBranch, files_in};
+ghost use Rattle.tree_build.specs.Branch.{root_name, known_tree, closed_along, closed_from};
+ghost use Rattle.tree_build.specs.{Nodes.{held, shape_of}, Standing.{IsFoundAt}};
 ghost use Rattle.tree_build.specs.Stores.{bare, bare_held};
 
 use crate::dir::{Dir, Entries, Node};

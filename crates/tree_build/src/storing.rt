@@ -1,21 +1,18 @@
 //! Storing the trees of opened directories, children first.
 
-ghost use Rattle.std.specs.Prelude.{◌≡◌, ◌≢◌, ◌<◌, ◌≤◌, ◌+◌, List, length, [], ◌∷◌, None, Some, IfOk, OnOk, get_or, fold, map, take};
-ghost use Rattle.git_model.specs.declared.file_mode.FileMode.TheVariants as mode;
-ghost use Rattle.git_model.specs.Tree.{TreeEntry as ListedEntry, tree_contents};
+ghost use Rattle.std.specs.Prelude.{◌≡◌, ◌<◌, ◌+◌, length, [], ◌∷◌, None, Some, IfOk, OnOk, get_or};
+ghost use Rattle.std.specs.Prelude.{take};
 ghost use Rattle.git_objects.specs.Parts.{entry_of};
-ghost use Rattle.tenant_tables.specs.Objects.{objects};
-ghost use Rattle.tenant_tables.specs.IsBackedBy.{IsBackedBy};
-ghost use Rattle.tenant_tables.specs.Trees.{FitsTree};
-ghost use Rattle.file_maps.specs.Trees.{nested_trees, tree_id, tree_name, file_of, unless_file};
-ghost use Rattle.file_maps.specs.Storable.{AreStorable};
-ghost use Rattle.file_maps.specs.StoredFiles.{stored_files};
+ghost use Rattle.tenant_tables.specs.{Objects.{objects}, IsBackedBy.{IsBackedBy}};
+ghost use Rattle.file_maps.specs.Trees.{nested_trees, tree_id, tree_name, file_of};
+ghost use Rattle.file_maps.specs.{Storable.{AreStorable}, StoredFiles.{stored_files}};
 ghost use Rattle.file_maps.specs.StoredTree.{ListsTree};
-ghost use Rattle.file_maps.specs.Storing.{StoresTrees, HasHoldsLeftBeside, as_fault};
-ghost use Rattle.tree_build.specs.Shape.{opened, shape_files, held_files};
+ghost use Rattle.file_maps.specs.Storing.{StoresTrees, HasHoldsLeftBeside};
+ghost use Rattle.tree_build.specs.{Shape.{opened, shape_files, held_files}, Nodes.{held, shape_of}};
 ghost use Rattle.tree_build.specs.Branch.{IsShape, IsHeld};
-ghost use Rattle.tree_build.specs.Nodes.{held, shape_of};
-ghost use Rattle.tree_build.specs.Stores.{bare, bare_held, IsNamed, AreNamed, entry_of_what, entries_of_shape, parts_of, trees_below, trees_of_parts};
+ghost use Rattle.tree_build.specs.Stores.{bare, bare_held, IsNamed, AreNamed, entry_of_what};
+ghost use Rattle.tree_build.specs.Stores.{entries_of_shape, parts_of, trees_below, trees_of_parts};
+ghost use Rattle.git_model.specs.declared.file_mode.FileMode.TheVariants as mode;
 
 use crate::component::Component;
 use crate::dir::{Dir, Entries, Node};
@@ -23,10 +20,10 @@ use crate::matching::{earlier_of, tree_again};
 use crate::sums::summary_of;
 use crate::writing::contents_of;
 use content_pool::Pool;
-use file_maps::Fault;
+use file_maps::{Fault, add_contents};
 use git_objects::{FileMode, Name, Naming, TreeEntry};
 use std::alloc::Global;
-use tenant_tables::{Fault as TableFault, Objects, Sight, Summary, Table};
+use tenant_tables::{Objects, Sight, Table};
 
 /// Stores the trees of an opened directory that are not stored yet. The name of its own tree then
 /// stands in `tree`: to answer it as well would take time at each directory. Where an earlier
@@ -212,36 +209,6 @@ fn write_tree<N: Naming>(
     let contents = contents_of(alloc, chunks)?;
     let summary = summary_of(table, chunks);
     add_contents(pool, table, contents, summary)
-}
-
-// Adds the tree with these contents and this summary.
-fn add_contents<N: Naming>(
-    pool: &mut Pool<N>,
-    table: &mut Table,
-    contents: Vec<u8>,
-    summary: Summary,
-) -> Result<Name, Fault>
-    requires stands { IsBackedBy N.digest_of pool.old table.old.entries }
-    requires room { HasHoldsLeftBeside pool.old table.old.entries }
-    requires fits { FitsTree table.old.entries contents.items summary }
-    ensures { (es : List ListedEntry) → contents.items ≡ tree_contents es
-        → StoresTrees result N.digest_of pool.old table.old pool.new table.new
-        (es ∷ []) (tree_name N.digest_of es) }
-{
-    match table.add_tree_owned(pool, contents, summary) {
-        Ok(id) => Ok(id),
-        Err(refusal) => Err(as_fault(refusal)),
-    }
-}
-
-fn as_fault(refusal: TableFault) -> Fault
-    ensures { result ≡ as_fault refusal }
-{
-    match refusal {
-        TableFault::Limit => Fault::Limit,
-        TableFault::NameCollision => Fault::NameCollision,
-        TableFault::Memory => Fault::Memory,
-    }
 }
 
 /// An entry as a tree lists it.

@@ -1,12 +1,9 @@
 //! The summary of a tree, from those of the directories in it.
 
-ghost use Rattle.std.specs.Prelude.{◌≡◌, ◌≤◌, ◌+◌};
-ghost use Rattle.std.specs.Option.{unwrap_or};
-ghost use Rattle.tenant_tables.specs.Trees.{no_files, below, one_file, both, entry_summary, tree_summary};
-ghost use Rattle.tenant_tables.specs.View.{summary_of};
-ghost use Rattle.tree_build.specs.Chunks.{all};
-ghost use Rattle.tree_build.specs.Nodes.{held, shape_of};
-ghost use Rattle.tree_build.specs.Shape.{file};
+ghost use Rattle.std.specs.{Prelude.{◌≡◌, ◌+◌}, Option.{unwrap_or}};
+ghost use Rattle.tenant_tables.specs.Trees.{no_files, below, one_file, both, entry_summary};
+ghost use Rattle.tenant_tables.specs.{Trees.{tree_summary}, View.{summary_of}};
+ghost use Rattle.tree_build.specs.{Chunks.{all}, Nodes.{held, shape_of}, Shape.{file}};
 ghost use Rattle.tree_build.specs.Stores.{AreNamed, IsNamed, entries_of_shape, entry_of_what};
 ghost use Rattle.tree_build.specs.Sums.{IsSmall, sum_with};
 

@@ -1,8 +1,7 @@
 //! Whether files may be put below a path, by their summary alone.
 
 ghost use Rattle.std.specs.Prelude.{◌≡◌};
-ghost use Rattle.tree_build.specs.Moving.{fits_below};
-ghost use Rattle.tree_build.specs.Sums.{IsSmall};
+ghost use Rattle.tree_build.specs.{Moving.{fits_below}, Sums.{IsSmall}};
 
 use git_paths::Path;
 use tenant_tables::Summary;

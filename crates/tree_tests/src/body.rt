@@ -1,14 +1,12 @@
 //! The two bodies of a branch, which go through the same steps.
 
 ghost use Rattle.std.specs.Prelude.{◌≢◌, ℕ, List, Err};
-ghost use Rattle.git_model.specs.Content.{Content};
-ghost use Rattle.git_model.specs.Repository.{Object, with_object};
-ghost use Rattle.git_model.specs.declared.file_mode.FileMode.TheVariants as mode;
-ghost use Rattle.tenant_tables.specs.Objects.{objects};
-ghost use Rattle.tenant_tables.specs.Room.{HasHoldsLeftBeside};
+ghost use Rattle.git_model.specs.{Content.{Content}, Repository.{Object, with_object}};
+ghost use Rattle.tenant_tables.specs.{Objects.{objects}, Room.{HasHoldsLeftBeside}};
 ghost use Rattle.tenant_tables.specs.IsBackedBy.{IsBackedBy};
-ghost use Rattle.file_maps.specs.declared.fault.Fault.TheVariants as fault;
 ghost use Rattle.tree_build.specs.Branch.{IsBranch};
+ghost use Rattle.git_model.specs.declared.file_mode.FileMode.TheVariants as mode;
+ghost use Rattle.file_maps.specs.declared.fault.Fault.TheVariants as fault;
 ghost use Rattle.tree_build.proofs.Growing.{branch_stays};
 
 use content_pool::Pool;
@@ -20,9 +18,21 @@ use std::alloc::Global;
 use tenant_tables::Table;
 use tree_build::Files;
 
+/// What an edit answers.
+pub type Edited = Result<(), Fault>;
+
+/// The edits that name paths alone, or a stored tree.
+#[derive(Drop)]
+pub enum Edit<'a> {
+    Drop(&'a Path),
+    Copy(&'a Path, &'a Path),
+    Rename(&'a Path, &'a Path),
+    Graft(&'a Path, &'a Name),
+}
+
 /// The files of a branch, as each of the two crates has them. Each call is that of the crates'
 /// `Files`, and takes `&mut` where one of them does.
-pub trait Body: Sized + Drop {
+pub trait Body<N: Naming>: Sized + Drop {
     /// The trees that the branch refers to are among the objects.
     ghost is_sound: { List Object → Self → Type 0 };
 
@@ -36,76 +46,22 @@ pub trait Body: Sized + Drop {
     /// How many stored trees were read; `None` for a body that does not count them.
     fn reads(&self) -> Option<u64>;
 
-    fn put<N: Naming>(
-        &mut self,
-        pool: &Pool<N>,
-        table: &Table,
-        path: &Path,
-        entry: Entry,
-    ) -> Result<(), Fault>
+    fn put(&mut self, pool: &Pool<N>, table: &Table, path: &Path, entry: Entry) -> Edited
         requires file { entry.mode ≢ mode.Directory }
         requires stands { IsBackedBy N.digest_of pool.now table.now.entries }
         requires sound { is_sound (objects pool.now table.now.entries) self.old }
         ensures { is_sound (objects pool.now table.now.entries) self.new };
 
-    fn drop_path<N: Naming>(
-        &mut self,
-        pool: &Pool<N>,
-        table: &Table,
-        path: &Path,
-    ) -> Result<(), Fault>
+    fn edit(&mut self, pool: &Pool<N>, table: &Table, edit: &Edit<'_>) -> Edited
         requires stands { IsBackedBy N.digest_of pool.now table.now.entries }
         requires sound { is_sound (objects pool.now table.now.entries) self.old }
         ensures { is_sound (objects pool.now table.now.entries) self.new };
 
-    fn copy<N: Naming>(
-        &mut self,
-        pool: &Pool<N>,
-        table: &Table,
-        from: &Path,
-        to: &Path,
-    ) -> Result<(), Fault>
-        requires stands { IsBackedBy N.digest_of pool.now table.now.entries }
-        requires sound { is_sound (objects pool.now table.now.entries) self.old }
-        ensures { is_sound (objects pool.now table.now.entries) self.new };
-
-    fn rename<N: Naming>(
-        &mut self,
-        pool: &Pool<N>,
-        table: &Table,
-        from: &Path,
-        to: &Path,
-    ) -> Result<(), Fault>
-        requires stands { IsBackedBy N.digest_of pool.now table.now.entries }
-        requires sound { is_sound (objects pool.now table.now.entries) self.old }
-        ensures { is_sound (objects pool.now table.now.entries) self.new };
-
-    fn graft<N: Naming>(
-        &mut self,
-        pool: &Pool<N>,
-        table: &Table,
-        path: &Path,
-        name: &Name,
-    ) -> Result<(), Fault>
-        requires stands { IsBackedBy N.digest_of pool.now table.now.entries }
-        requires sound { is_sound (objects pool.now table.now.entries) self.old }
-        ensures { is_sound (objects pool.now table.now.entries) self.new };
-
-    fn entry<N: Naming>(
-        &self,
-        pool: &Pool<N>,
-        table: &Table,
-        path: &Path,
-    ) -> Result<Option<Entry>, Memory>
+    fn entry(&self, pool: &Pool<N>, table: &Table, path: &Path) -> Result<Option<Entry>, Memory>
         requires stands { IsBackedBy N.digest_of pool.now table.now.entries }
         requires sound { is_sound (objects pool.now table.now.entries) self.now };
 
-    fn store<N: Naming>(
-        &mut self,
-        pool: &mut Pool<N>,
-        table: &mut Table,
-        at: &Path,
-    ) -> Result<Name, Fault>
+    fn store(&mut self, pool: &mut Pool<N>, table: &mut Table, at: &Path) -> Result<Name, Fault>
         requires stands { IsBackedBy N.digest_of pool.old table.old.entries }
         requires room { HasHoldsLeftBeside pool.old table.old.entries }
         requires sound { is_sound (objects pool.old table.old.entries) self.old }
@@ -117,7 +73,7 @@ pub trait Body: Sized + Drop {
         → is_sound (with_object id c os) files };
 }
 
-impl Body for PlainFiles {
+impl<N: Naming> Body<N> for PlainFiles {
     ghost is_sound = { λ os files. Unit {0} };
 
     fn new(alloc: Global) -> PlainFiles {
@@ -132,70 +88,24 @@ impl Body for PlainFiles {
         None
     }
 
-    fn put<N: Naming>(
-        &mut self,
-        pool: &Pool<N>,
-        table: &Table,
-        path: &Path,
-        entry: Entry,
-    ) -> Result<(), Fault> {
+    fn put(&mut self, pool: &Pool<N>, table: &Table, path: &Path, entry: Entry) -> Edited {
         PlainFiles::put(self, pool, table, path, entry)
     }
 
-    fn drop_path<N: Naming>(
-        &mut self,
-        pool: &Pool<N>,
-        table: &Table,
-        path: &Path,
-    ) -> Result<(), Fault> {
-        PlainFiles::drop_path(self, pool, table, path)
+    fn edit(&mut self, pool: &Pool<N>, table: &Table, edit: &Edit<'_>) -> Edited {
+        match edit {
+            Edit::Drop(path) => PlainFiles::drop_path(self, pool, table, path),
+            Edit::Copy(from, to) => PlainFiles::copy(self, pool, table, from, to),
+            Edit::Rename(from, to) => PlainFiles::rename(self, pool, table, from, to),
+            Edit::Graft(path, name) => PlainFiles::graft(self, pool, table, path, name),
+        }
     }
 
-    fn copy<N: Naming>(
-        &mut self,
-        pool: &Pool<N>,
-        table: &Table,
-        from: &Path,
-        to: &Path,
-    ) -> Result<(), Fault> {
-        PlainFiles::copy(self, pool, table, from, to)
-    }
-
-    fn rename<N: Naming>(
-        &mut self,
-        pool: &Pool<N>,
-        table: &Table,
-        from: &Path,
-        to: &Path,
-    ) -> Result<(), Fault> {
-        PlainFiles::rename(self, pool, table, from, to)
-    }
-
-    fn graft<N: Naming>(
-        &mut self,
-        pool: &Pool<N>,
-        table: &Table,
-        path: &Path,
-        name: &Name,
-    ) -> Result<(), Fault> {
-        PlainFiles::graft(self, pool, table, path, name)
-    }
-
-    fn entry<N: Naming>(
-        &self,
-        pool: &Pool<N>,
-        table: &Table,
-        path: &Path,
-    ) -> Result<Option<Entry>, Memory> {
+    fn entry(&self, pool: &Pool<N>, table: &Table, path: &Path) -> Result<Option<Entry>, Memory> {
         PlainFiles::entry(self, pool, table, path)
     }
 
-    fn store<N: Naming>(
-        &mut self,
-        pool: &mut Pool<N>,
-        table: &mut Table,
-        at: &Path,
-    ) -> Result<Name, Fault> {
+    fn store(&mut self, pool: &mut Pool<N>, table: &mut Table, at: &Path) -> Result<Name, Fault> {
         PlainFiles::store(self, pool, table, at)
     }
 
@@ -203,7 +113,7 @@ impl Body for PlainFiles {
 }
 
 // After `Memory` a branch may only be cleared.
-fn settled(files: &mut Files, answer: Result<(), Fault>) -> Result<(), Fault>
+fn settled(files: &mut Files, answer: Edited) -> Edited
     ensures { (os : List Object) → (answer ≢ Err fault.Memory → IsBranch os files.old)
         → IsBranch os files.new }
 {
@@ -216,7 +126,20 @@ fn settled(files: &mut Files, answer: Result<(), Fault>) -> Result<(), Fault>
     }
 }
 
-impl Body for Files {
+fn edited<N: Naming>(files: &mut Files, pool: &Pool<N>, table: &Table, edit: &Edit<'_>) -> Edited
+    requires stands { IsBackedBy N.digest_of pool.now table.now.entries }
+    requires branch { IsBranch (objects pool.now table.now.entries) files.old }
+    ensures { result ≢ Err fault.Memory → IsBranch (objects pool.now table.now.entries) files.new }
+{
+    match edit {
+        Edit::Drop(path) => files.drop_path(pool, table, path),
+        Edit::Copy(from, to) => files.copy(pool, table, from, to),
+        Edit::Rename(from, to) => files.rename(pool, table, from, to),
+        Edit::Graft(path, name) => files.graft(pool, table, path, name),
+    }
+}
+
+impl<N: Naming> Body<N> for Files {
     ghost is_sound = { IsBranch };
 
     fn new(alloc: Global) -> Files {
@@ -231,75 +154,21 @@ impl Body for Files {
         Some(Files::reads(self))
     }
 
-    fn put<N: Naming>(
-        &mut self,
-        pool: &Pool<N>,
-        table: &Table,
-        path: &Path,
-        entry: Entry,
-    ) -> Result<(), Fault> {
+    fn put(&mut self, pool: &Pool<N>, table: &Table, path: &Path, entry: Entry) -> Edited {
         let answer = Files::put(self, pool, table, path, entry);
         settled(self, answer)
     }
 
-    fn drop_path<N: Naming>(
-        &mut self,
-        pool: &Pool<N>,
-        table: &Table,
-        path: &Path,
-    ) -> Result<(), Fault> {
-        let answer = Files::drop_path(self, pool, table, path);
+    fn edit(&mut self, pool: &Pool<N>, table: &Table, edit: &Edit<'_>) -> Edited {
+        let answer = edited(self, pool, table, edit);
         settled(self, answer)
     }
 
-    fn copy<N: Naming>(
-        &mut self,
-        pool: &Pool<N>,
-        table: &Table,
-        from: &Path,
-        to: &Path,
-    ) -> Result<(), Fault> {
-        let answer = Files::copy(self, pool, table, from, to);
-        settled(self, answer)
-    }
-
-    fn rename<N: Naming>(
-        &mut self,
-        pool: &Pool<N>,
-        table: &Table,
-        from: &Path,
-        to: &Path,
-    ) -> Result<(), Fault> {
-        let answer = Files::rename(self, pool, table, from, to);
-        settled(self, answer)
-    }
-
-    fn graft<N: Naming>(
-        &mut self,
-        pool: &Pool<N>,
-        table: &Table,
-        path: &Path,
-        name: &Name,
-    ) -> Result<(), Fault> {
-        let answer = Files::graft(self, pool, table, path, name);
-        settled(self, answer)
-    }
-
-    fn entry<N: Naming>(
-        &self,
-        pool: &Pool<N>,
-        table: &Table,
-        path: &Path,
-    ) -> Result<Option<Entry>, Memory> {
+    fn entry(&self, pool: &Pool<N>, table: &Table, path: &Path) -> Result<Option<Entry>, Memory> {
         Files::entry(self, pool, table, path)
     }
 
-    fn store<N: Naming>(
-        &mut self,
-        pool: &mut Pool<N>,
-        table: &mut Table,
-        at: &Path,
-    ) -> Result<Name, Fault> {
+    fn store(&mut self, pool: &mut Pool<N>, table: &mut Table, at: &Path) -> Result<Name, Fault> {
         Files::store(self, pool, table, at)
     }
 

@@ -3,7 +3,7 @@
 ghost use Rattle.std.specs.Prelude.{◌≢◌};
 ghost use Rattle.git_model.specs.declared.file_mode.FileMode.TheVariants as mode;
 
-use crate::body::Body;
+use crate::body::{Body, Edit, Edited};
 use crate::step::{
     HELLO, Step, is, is_named, long_path, mode_in, name_in, number_in, path_in, step_of,
 };
@@ -32,8 +32,8 @@ pub fn first_wrong(alloc: Global, steps: &str) -> Option<usize> {
 }
 
 /// The same for this body alone.
-pub fn first_wrong_of<B: Body>(alloc: Global, steps: &str) -> Option<usize> {
-    let mut branch: Branch<B, Sha1Naming> = Branch::new(alloc, Sha1Naming);
+pub fn first_wrong_of<B: Body<Sha1Naming>>(alloc: Global, steps: &str) -> Option<usize> {
+    let mut branch: ShaBranch<B> = Branch::new(alloc, Sha1Naming);
     let wrong = branch.first_wrong(steps.as_bytes());
     drop(branch);
     wrong
@@ -51,7 +51,10 @@ pub fn first_otherwise(alloc: Global, cases: &[Case]) -> Option<(&'static str, u
 }
 
 /// The same for this body alone, without the position.
-pub fn first_otherwise_of<B: Body>(alloc: Global, cases: &[Case]) -> Option<&'static str> {
+pub fn first_otherwise_of<B: Body<Sha1Naming>>(
+    alloc: Global,
+    cases: &[Case],
+) -> Option<&'static str> {
     for case in cases {
         if first_wrong_of::<B>(alloc, case.steps).is_some() {
             return Some(case.does);
@@ -62,16 +65,19 @@ pub fn first_otherwise_of<B: Body>(alloc: Global, cases: &[Case]) -> Option<&'st
 
 /// The files of a branch, with the pool and the table that their trees are stored in.
 #[derive(Drop)]
-pub struct Branch<B: Body, N: Naming> {
+pub struct Branch<B: Body<N>, N: Naming> {
     alloc: Global,
     files: B,
     pool: Pool<N>,
     table: Table,
 }
 
+/// A branch whose objects have Git's names.
+pub type ShaBranch<B> = Branch<B, Sha1Naming>;
+
 // The number of a refusal, 0 where there is none; `None` where memory ran out, which no case
 // expects.
-fn code_of(answer: Result<(), Fault>) -> Option<u64> {
+fn code_of(answer: Edited) -> Option<u64> {
     match answer {
         Ok(()) => Some(0),
         Err(Fault::Memory) => None,
@@ -113,10 +119,14 @@ fn path_of(alloc: Global, text: &[u8]) -> Option<Path> {
     }
 }
 
-impl<B: Body, N: Naming> Model for Branch<B, N> {
+fn two_paths(alloc: Global, from: &[u8], to: &[u8]) -> Option<(Path, Path)> {
+    let from = path_of(alloc, from)?;
+    Some((from, path_of(alloc, to)?))
+}
+
+impl<B: Body<N>, N: Naming> Model for Branch<B, N> {
     ghost use Rattle.std.specs.Prelude.{ℕ};
-    ghost use Rattle.tenant_tables.specs.IsBackedBy.{IsBackedBy};
-    ghost use Rattle.tenant_tables.specs.Room.{HasHoldsLeftBeside};
+    ghost use Rattle.tenant_tables.specs.{IsBackedBy.{IsBackedBy}, Room.{HasHoldsLeftBeside}};
     ghost use Rattle.tenant_tables.specs.Objects.{objects};
 
     ghost Value = { ℕ };
@@ -128,7 +138,7 @@ impl<B: Body, N: Naming> Model for Branch<B, N> {
         × B.is_sound (objects branch.pool branch.table.entries) branch.files };
 }
 
-impl<B: Body, N: Naming> Branch<B, N> {
+impl<B: Body<N>, N: Naming> Branch<B, N> {
     /// An empty branch over a new pool and a new table. Takes no memory.
     pub fn new(alloc: Global, naming: N) -> Branch<B, N> {
         Branch {
@@ -352,29 +362,19 @@ impl<B: Body, N: Naming> Branch<B, N> {
     /// Removes the files at or below a path.
     pub fn drop_path(&mut self, path: &[u8]) -> Option<u64> {
         let path = path_of(self.alloc, path)?;
-        code_of(self.files.drop_path(&self.pool, &self.table, &path))
+        self.change(&Edit::Drop(&path))
     }
 
     /// Copies the files at or below one path to another.
     pub fn copy(&mut self, from: &[u8], to: &[u8]) -> Option<u64> {
-        let from = path_of(self.alloc, from)?;
-        self.copy_from(&from, to)
-    }
-
-    fn copy_from(&mut self, from: &Path, to: &[u8]) -> Option<u64> {
-        let to = path_of(self.alloc, to)?;
-        code_of(self.files.copy(&self.pool, &self.table, from, &to))
+        let (from, to) = two_paths(self.alloc, from, to)?;
+        self.change(&Edit::Copy(&from, &to))
     }
 
     /// Moves the files at or below one path to another.
     pub fn rename(&mut self, from: &[u8], to: &[u8]) -> Option<u64> {
-        let from = path_of(self.alloc, from)?;
-        self.rename_from(&from, to)
-    }
-
-    fn rename_from(&mut self, from: &Path, to: &[u8]) -> Option<u64> {
-        let to = path_of(self.alloc, to)?;
-        code_of(self.files.rename(&self.pool, &self.table, from, &to))
+        let (from, to) = two_paths(self.alloc, from, to)?;
+        self.change(&Edit::Rename(&from, &to))
     }
 
     /// Puts the stored tree of this name at a path.
@@ -390,7 +390,11 @@ impl<B: Body, N: Naming> Branch<B, N> {
 
     fn graft_at(&mut self, path: &Path, digits: &[u8]) -> Option<u64> {
         let name = Name::from_hex(digits)?;
-        code_of(self.files.graft(&self.pool, &self.table, path, &name))
+        self.change(&Edit::Graft(path, &name))
+    }
+
+    fn change(&mut self, edit: &Edit<'_>) -> Option<u64> {
+        code_of(self.files.edit(&self.pool, &self.table, edit))
     }
 
     fn adds_blob(&mut self, bytes: &[u8]) -> bool {

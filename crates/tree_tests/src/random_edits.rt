@@ -2,7 +2,7 @@
 //! where the files are put back.
 
 use crate::body::Body;
-use crate::branch::Branch;
+use crate::branch::{Branch, ShaBranch};
 use crate::made_by_git::{Asked, first_otherwise};
 use crate::real_trees::puts_all;
 use crate::step::{HELLO, is_named};
@@ -13,9 +13,12 @@ use tree_build::Files;
 
 const EDITS: usize = 12;
 
-type Plain = Branch<PlainFiles, Sha1Naming>;
-
-type Nested = Branch<Files, Sha1Naming>;
+// Both bodies of one branch.
+#[derive(Drop)]
+struct Both {
+    plain: ShaBranch<PlainFiles>,
+    nested: ShaBranch<Files>,
+}
 
 // Pseudorandom numbers: Knuth's linear congruential generator.
 #[derive(Drop)]
@@ -65,7 +68,7 @@ struct Edit<'a> {
     tree: &'a [u8],
 }
 
-fn answer_of<B: Body>(branch: &mut Branch<B, Sha1Naming>, edit: &Edit<'_>) -> Option<u64> {
+fn answer_of<B: Body<Sha1Naming>>(branch: &mut ShaBranch<B>, edit: &Edit<'_>) -> Option<u64> {
     match edit.kind {
         0 => branch.put(edit.to, HELLO),
         1 => branch.graft(edit.to, edit.tree),
@@ -85,47 +88,41 @@ fn some_edit<'a>(random: &mut Random, list: &'a [u8], tree: &'a [u8]) -> Edit<'a
 }
 
 // Whether the trees of both have the same name.
-fn have_one_name(plain: &Plain, nested: &Nested) -> bool {
-    let name = plain.tree_at(b"");
-    name.is_some() && name == nested.tree_at(b"")
+fn have_one_name(both: &Both) -> bool {
+    let name = both.plain.tree_at(b"");
+    name.is_some() && name == both.nested.tree_at(b"")
 }
 
 // Whether both answer an edit alike, and then have the same name.
-fn goes_alike(plain: &mut Plain, nested: &mut Nested, one: &Edit<'_>) -> bool {
-    let answer = answer_of(plain, one);
-    answer.is_some() && answer == answer_of(nested, one) && have_one_name(plain, nested)
+fn goes_alike(both: &mut Both, one: &Edit<'_>) -> bool {
+    let answer = answer_of(&mut both.plain, one);
+    answer.is_some() && answer == answer_of(&mut both.nested, one) && have_one_name(both)
 }
 
 // Whether the tree of a branch is stored, and the branch begins again from it.
-fn begins_again<B: Body>(branch: &mut Branch<B, Sha1Naming>) -> bool {
+fn begins_again<B: Body<Sha1Naming>>(branch: &mut ShaBranch<B>) -> bool {
     match branch.store() {
         Some(name) => begins_from(branch, name.to_hex().as_slice()),
         None => false,
     }
 }
 
-fn begins_from<B: Body>(branch: &mut Branch<B, Sha1Naming>, digits: &[u8]) -> bool {
+fn begins_from<B: Body<Sha1Naming>>(branch: &mut ShaBranch<B>, digits: &[u8]) -> bool {
     branch.clear();
     branch.graft(b"", digits).is_some()
 }
 
-fn begin_again_alike(plain: &mut Plain, nested: &mut Nested) -> bool {
-    begins_again(plain) && begins_again(nested) && have_one_name(plain, nested)
+fn begin_again_alike(both: &mut Both) -> bool {
+    begins_again(&mut both.plain) && begins_again(&mut both.nested) && have_one_name(both)
 }
 
-fn all_go_alike(
-    plain: &mut Plain,
-    nested: &mut Nested,
-    random: &mut Random,
-    list: &[u8],
-    tree: &[u8],
-) -> bool {
+fn all_go_alike(both: &mut Both, random: &mut Random, list: &[u8], tree: &[u8]) -> bool {
     for round in 0..EDITS {
         let one = some_edit(random, list, tree);
-        if !goes_alike(plain, nested, &one) {
+        if !goes_alike(both, &one) {
             return false;
         }
-        if round % 4 == 1 && !begin_again_alike(plain, nested) {
+        if round % 4 == 1 && !begin_again_alike(both) {
             return false;
         }
     }
@@ -134,35 +131,30 @@ fn all_go_alike(
 
 // Whether a branch has this name once the files of a list are put into it, and once they are put
 // back after edits.
-fn gets_name<B: Body>(branch: &mut Branch<B, Sha1Naming>, list: &[u8], tree: &[u8]) -> bool {
+fn gets_name<B: Body<Sha1Naming>>(branch: &mut ShaBranch<B>, list: &[u8], tree: &[u8]) -> bool {
     branch.clear();
     puts_all(branch, list) && is_named(branch.store(), tree) && is_named(branch.tree_at(b""), tree)
 }
 
-fn both_get_name(plain: &mut Plain, nested: &mut Nested, list: &[u8], tree: &[u8]) -> bool {
-    gets_name(plain, list, tree) && gets_name(nested, list, tree)
+fn both_get_name(both: &mut Both, list: &[u8], tree: &[u8]) -> bool {
+    gets_name(&mut both.plain, list, tree) && gets_name(&mut both.nested, list, tree)
 }
 
-fn keep_names(
-    plain: &mut Plain,
-    nested: &mut Nested,
-    random: &mut Random,
-    list: &[u8],
-    tree: &[u8],
-) -> bool {
-    both_get_name(plain, nested, list, tree)
-        && all_go_alike(plain, nested, random, list, tree)
-        && both_get_name(plain, nested, list, tree)
+fn keep_names(both: &mut Both, random: &mut Random, list: &[u8], tree: &[u8]) -> bool {
+    both_get_name(both, list, tree)
+        && all_go_alike(both, random, list, tree)
+        && both_get_name(both, list, tree)
 }
 
 /// Whether both bodies keep the names of a tree of this list through random edits.
 pub fn tree_keeps_names(alloc: Global, seed: u64, list: &[u8], tree: &[u8]) -> bool {
     let mut random = Random { state: seed };
-    let mut plain: Plain = Branch::new(alloc, Sha1Naming);
-    let mut nested: Nested = Branch::new(alloc, Sha1Naming);
-    let keep = keep_names(&mut plain, &mut nested, &mut random, list, tree);
-    drop(plain);
-    drop(nested);
+    let mut both = Both {
+        plain: Branch::new(alloc, Sha1Naming),
+        nested: Branch::new(alloc, Sha1Naming),
+    };
+    let keep = keep_names(&mut both, &mut random, list, tree);
+    drop(both);
     keep
 }
 

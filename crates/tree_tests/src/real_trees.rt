@@ -1,7 +1,7 @@
 //! Twenty trees of a real repository, built from their files and put back by their names.
 
 use crate::body::Body;
-use crate::branch::Branch;
+use crate::branch::{Branch, ShaBranch};
 use crate::made_by_git::{Asked, first_otherwise};
 use crate::step::is_named;
 use git_objects::Sha1Naming;
@@ -10,7 +10,7 @@ use std::alloc::Global;
 use tree_build::Files;
 
 /// Puts the files of a list, as `git ls-tree -r` writes it. False where one is refused.
-pub fn puts_all<B: Body>(branch: &mut Branch<B, Sha1Naming>, list: &[u8]) -> bool {
+pub fn puts_all<B: Body<Sha1Naming>>(branch: &mut ShaBranch<B>, list: &[u8]) -> bool {
     for line in list.split(|byte| *byte == b'\n') {
         if !branch.puts_line(line) {
             return false;
@@ -20,24 +20,32 @@ pub fn puts_all<B: Body>(branch: &mut Branch<B, Sha1Naming>, list: &[u8]) -> boo
 }
 
 // Whether the root has this name before it is stored, and `store` answers it.
-fn names<B: Body>(branch: &mut Branch<B, Sha1Naming>, list: &[u8], name: &[u8]) -> bool {
+fn names<B: Body<Sha1Naming>>(branch: &mut ShaBranch<B>, list: &[u8], name: &[u8]) -> bool {
     puts_all(branch, list) && is_named(branch.tree_at(b""), name) && is_named(branch.store(), name)
 }
 
 // Whether the stored tree is at the path after it is put there. A refused one leaves nothing there.
-fn puts_back<B: Body>(branch: &mut Branch<B, Sha1Naming>, path: &[u8], name: &[u8]) -> bool {
+fn puts_back<B: Body<Sha1Naming>>(branch: &mut ShaBranch<B>, path: &[u8], name: &[u8]) -> bool {
     branch.clear();
     branch.graft(path, name).is_some() && is_named(branch.tree_at(path), name)
 }
 
-fn goes_as_git_says<B: Body>(branch: &mut Branch<B, Sha1Naming>, list: &[u8], name: &[u8]) -> bool {
+fn goes_as_git_says<B: Body<Sha1Naming>>(
+    branch: &mut ShaBranch<B>,
+    list: &[u8],
+    name: &[u8],
+) -> bool {
     names(branch, list, name)
         && puts_back(branch, b"some/where", name)
         && puts_back(branch, b"", name)
 }
 
-fn new_branch_goes_as_git_says<B: Body>(alloc: Global, list: &[u8], name: &[u8]) -> bool {
-    let mut branch: Branch<B, Sha1Naming> = Branch::new(alloc, Sha1Naming);
+fn new_branch_goes_as_git_says<B: Body<Sha1Naming>>(
+    alloc: Global,
+    list: &[u8],
+    name: &[u8],
+) -> bool {
+    let mut branch: ShaBranch<B> = Branch::new(alloc, Sha1Naming);
     let goes = goes_as_git_says(&mut branch, list, name);
     drop(branch);
     goes

@@ -1,8 +1,7 @@
 //! A check of the grammar of git-fast-import(1), before any repository is there.
 
 ghost use Rattle.std.specs.Prelude.{OnOk, map};
-ghost use Rattle.stream_grammar.specs.Parts.{part_of};
-ghost use Rattle.stream_grammar.specs.Whole.{AreCommands};
+ghost use Rattle.stream_grammar.specs.{Parts.{part_of}, Whole.{AreCommands}};
 ghost use Rattle.stream_lex.specs.Looking.{item_of};
 
 use std::alloc::Global;

@@ -2,8 +2,7 @@
 
 ghost use Rattle.std.specs.Prelude.{◌≡◌, ℕ, List, Ok, IfOk, length};
 ghost use Rattle.revisions.specs.Logs.{range_log};
-ghost use Rattle.tenant_service.specs.TenantState.{held_of};
-ghost use Rattle.tenant_service.specs.HeldObjects.{last_held};
+ghost use Rattle.tenant_service.specs.{TenantState.{held_of}, HeldObjects.{last_held}};
 
 use git_objects::Naming;
 use revisions::{Fault, range};

@@ -1,7 +1,6 @@
 //! A stream of git-fast-import(1), imported for one tenant of a service.
 
-ghost use Rattle.std.specs.Prelude.{◌≡◌, ℕ, List, false};
-ghost use Rattle.std.specs.Str.{bytes_eq};
+ghost use Rattle.std.specs.{Prelude.{◌≡◌, ℕ, List, false}, Str.{bytes_eq}};
 ghost use Rattle.tenant_service.specs.TenantState.{held_of};
 
 use gitpool::{Answer, Naming, Service, Step};

@@ -1,8 +1,7 @@
 //! The lines of a stream, without its data, comments and blank lines.
 
-ghost use Rattle.std.specs.Prelude.{◌≡◌, ◌++◌, Bool, false, [], IfOk, OnOk};
-ghost use Rattle.stream_lex.specs.Items.{Rest};
-ghost use Rattle.stream_lex.specs.Reading.{reading};
+ghost use Rattle.std.specs.Prelude.{◌≡◌, Bool, false, [], IfOk, OnOk};
+ghost use Rattle.stream_lex.specs.{Items.{Rest}, Reading.{reading}};
 ghost use Rattle.uses.specs.Outlines.{Outlines, outline_of};
 
 use std::alloc::Global;

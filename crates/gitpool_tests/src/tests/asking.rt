@@ -4,14 +4,14 @@
 use super::copies::{REFS, STREAM};
 use super::told::takes;
 use byte_devices::FailingWriter;
-use gitpool::{AskFault, CheckFault, Counted, Service, Sha1Naming, ask, check};
+use gitpool::{Counted, Service, Sha1Naming, StepFault, WriteFault, ask, check};
 use std::alloc::Global;
 
 // A tenant and its query, the answer, and what is written.
 type Query = (
     &'static [u8],
     &'static [u8],
-    Result<(), AskFault>,
+    Result<(), StepFault>,
     &'static [u8],
 );
 
@@ -21,10 +21,10 @@ const QUERIES: &[Query] = &[
     (b"a", b"head", Ok(()), b"refs/heads/main\n"),
     (b"b", b"refs", Ok(()), b""),
     (b"b", b"head", Ok(()), b"refs/heads/main\n"),
-    (b"a", b"no", Err(AskFault::Step(40)), b""),
-    (b"a", b"rev-parse", Err(AskFault::Step(41)), b""),
-    (b"a", b"rev-parse no", Err(AskFault::Step(16)), b""),
-    (b"a b", b"refs", Err(AskFault::Step(32)), b""),
+    (b"a", b"no", Err(StepFault::Refused(40)), b""),
+    (b"a", b"rev-parse", Err(StepFault::Refused(41)), b""),
+    (b"a", b"rev-parse no", Err(StepFault::Refused(16)), b""),
+    (b"a b", b"refs", Err(StepFault::Refused(32)), b""),
 ];
 
 // A blob of 6 bytes, a tree of 29 and a commit of 98.
@@ -52,7 +52,7 @@ fn tells_write(alloc: Global, service: &mut Service<Sha1Naming>, nth: u64) -> bo
     let asked = ask(alloc, service, b"a", b"refs", &mut writer);
     let faults = writer.faults();
     let written = writer.into_inner().into_inner();
-    asked == Err(AskFault::Device)
+    asked == Err(StepFault::Device)
         && faults == 1
         && Some(written.as_slice()) == REFS.get(..nth as usize)
 }
@@ -63,7 +63,7 @@ fn tells_write_of_check(alloc: Global, service: &Service<Sha1Naming>, nth: u64) 
     let checked = check(alloc, service, &mut writer);
     let faults = writer.faults();
     let written = writer.into_inner().into_inner();
-    checked == Err(CheckFault::Device)
+    checked == Err(WriteFault::Device)
         && faults == 1
         && Some(written.as_slice()) == STORED.get(..nth as usize)
 }
@@ -102,8 +102,8 @@ fn queries_and_checks_tell_each_write_that_fails(rt: HostRuntime) {
 
 #[test]
 fn numbers_the_faults_of_queries_and_checks(rt: HostRuntime) {
-    let asked = [AskFault::Step(40), AskFault::Device, AskFault::Memory];
+    let asked = [StepFault::Refused(40), StepFault::Device, StepFault::Memory];
     assert_eq!(rt; asked.map(|fault| fault.code()), [40, 68, 90]);
-    let checked = [CheckFault::Device, CheckFault::Memory];
+    let checked = [WriteFault::Device, WriteFault::Memory];
     assert_eq!(rt; checked.map(|fault| fault.code()), [68, 90]);
 }

@@ -2,7 +2,7 @@
 
 use super::one_byte::OneByte;
 use byte_devices::{FailingReader, FailingWriter};
-use gitpool::{Counted, ImportFault, Sha1Naming, import_one};
+use gitpool::{Counted, Sha1Naming, StepFault, import_one};
 use std::alloc::Global;
 
 // The line of `get-mark` ends with its 38th byte, and that of `progress` with its 49th.
@@ -22,7 +22,7 @@ pub fn replied(given: usize) -> usize {
 // What an import answers, how many calls of its device failed, and what it wrote.
 #[derive(Drop)]
 struct Imported {
-    ended: Result<(), ImportFault>,
+    ended: Result<(), StepFault>,
     faults: u64,
     out: Vec<u8>,
 }
@@ -48,7 +48,7 @@ fn with_failing_writer(alloc: Global, nth: u64) -> Imported {
 
 // Whether an import reports a failure of its device, after so many bytes of the replies are written.
 fn tells_failure(imported: &Imported, size: usize) -> bool {
-    imported.ended == Err(ImportFault::Device)
+    imported.ended == Err(StepFault::Device)
         && imported.faults == 1
         && Some(imported.out.as_slice()) == REPLIES.get(..size)
 }
@@ -79,18 +79,18 @@ fn tells_each_write_that_fails(rt: HostRuntime) {
 }
 
 // A stream that ends before its bytes do, the answer to it, and the number of bytes that are read.
-const ENDED_EARLY: &[(&[u8], Result<(), ImportFault>, u64)] = &[
+const ENDED_EARLY: &[(&[u8], Result<(), StepFault>, u64)] = &[
     (b"progress x\ndone\nprogress y\n", Ok(()), 16),
     (
         b"progress x\nget-mark :9\nprogress y\n",
-        Err(ImportFault::Stream(13)),
+        Err(StepFault::Refused(13)),
         23,
     ),
 ];
 
 // The answer of an import that gets one byte a call, the number of bytes that it read, and the
 // number of its calls.
-fn read_early(alloc: Global, bytes: &[u8]) -> (Result<(), ImportFault>, u64, u64) {
+fn read_early(alloc: Global, bytes: &[u8]) -> (Result<(), StepFault>, u64, u64) {
     let mut reader = Counted::new(OneByte::new(bytes));
     let mut writer = Counted::new(Vec::new(alloc));
     let ended = import_one(alloc, Sha1Naming, &mut reader, &mut writer);

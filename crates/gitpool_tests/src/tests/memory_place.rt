@@ -1,6 +1,6 @@
 //! A pool file in memory, for tests of hosts.
 
-use gitpool::{PoolPlace, SaveFault};
+use gitpool::{PoolPlace, WriteFault};
 use std::alloc::Global;
 
 /// A pool file in memory. It refuses the first replacements, as many as `refuses` says.
@@ -32,14 +32,14 @@ impl PoolPlace for MemoryPlace {
 
     ghost file = { λ place. Some place.file.items };
 
-    fn begin(&mut self) -> Result<Vec<u8>, SaveFault> {
+    fn begin(&mut self) -> Result<Vec<u8>, WriteFault> {
         Ok(Vec::new(self.alloc))
     }
 
-    fn put_in_place(&mut self, new: Vec<u8>) -> Result<(), SaveFault> {
+    fn put_in_place(&mut self, new: Vec<u8>) -> Result<(), WriteFault> {
         if self.refuses > 0 {
             self.refuses -= 1;
-            return Err(SaveFault::Device);
+            return Err(WriteFault::Device);
         }
         self.file = new;
         Ok(())

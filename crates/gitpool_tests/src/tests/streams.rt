@@ -1,7 +1,7 @@
 //! Imports of streams, and the other ways in which an import ends. The frames of crate
 //! gitpool_frames test what each worked stream prints.
 
-use gitpool::{Counted, ImportFault, Naming, Sha1Naming, TailNaming, import_one};
+use gitpool::{Counted, Naming, Sha1Naming, StepFault, TailNaming, import_one};
 use std::alloc::Global;
 
 // A stream of the folder `streams/`, by its name there, what it prints, and the fault that it gets.
@@ -9,7 +9,7 @@ struct Import {
     name: &'static str,
     stream: &'static [u8],
     replies: &'static [u8],
-    fault: Option<ImportFault>,
+    fault: Option<StepFault>,
 }
 
 const IMPORTS: &[Import] = &[
@@ -17,19 +17,19 @@ const IMPORTS: &[Import] = &[
         name: "unknown_mark",
         stream: b"progress before\nget-mark :9\nprogress after\n",
         replies: b"progress before\n",
-        fault: Some(ImportFault::Stream(13)),
+        fault: Some(StepFault::Refused(13)),
     },
     Import {
         name: "cut_off_in_data",
         stream: b"blob\ndata 5\nabcd",
         replies: b"",
-        fault: Some(ImportFault::Stream(6)),
+        fault: Some(StepFault::Refused(6)),
     },
     Import {
         name: "feature_done_missing",
         stream: b"feature done\nblob\ndata 6\nhello\nprogress x\n",
         replies: b"progress x\n",
-        fault: Some(ImportFault::Stream(7)),
+        fault: Some(StepFault::Refused(7)),
     },
     Import {
         name: "branch_moved_to_another_history",
@@ -42,12 +42,7 @@ const IMPORTS: &[Import] = &[
 ];
 
 // The fault of a stream, and what was written.
-fn run<N: Naming>(
-    alloc: Global,
-    naming: N,
-    stream: &[u8],
-    out: &mut Vec<u8>,
-) -> Option<ImportFault> {
+fn run<N: Naming>(alloc: Global, naming: N, stream: &[u8], out: &mut Vec<u8>) -> Option<StepFault> {
     let mut writer = Counted::new(Vec::new(alloc));
     let ended = import_one(alloc, naming, &mut Counted::new(stream), &mut writer);
     *out = writer.into_inner();
@@ -78,7 +73,7 @@ const SECOND_CONTENT: &Import = &Import {
     name: "second content",
     stream: b"blob\nmark :1\ndata 2\nabblob\ndata 2\nabcat-blob :1\nblob\ndata 2\nba",
     replies: b"abababababababababababababababababababb4 blob 2\nab\n",
-    fault: Some(ImportFault::Stream(24)),
+    fault: Some(StepFault::Refused(24)),
 };
 
 #[test]
@@ -88,10 +83,6 @@ fn refuses_a_second_content_of_one_name(rt: HostRuntime) {
 
 #[test]
 fn numbers_what_ends_an_import(rt: HostRuntime) {
-    let codes = [
-        ImportFault::Stream(13),
-        ImportFault::Device,
-        ImportFault::Memory,
-    ];
+    let codes = [StepFault::Refused(13), StepFault::Device, StepFault::Memory];
     assert_eq!(rt; codes.map(|fault| fault.code()), [13, 68, 90]);
 }

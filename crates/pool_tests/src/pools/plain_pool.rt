@@ -3,12 +3,11 @@
 //! It has the calls of `Pool` under the same clauses, but no `release`, and finds a content by
 //! going through all of them. It answers positions in the list in place of slots.
 
-ghost use Rattle.std.specs.Prelude.{◌≡◌, ℕ, ◌+◌, ◌-◌, ◌<◌, ◌^◌, ◌↔◌, List, length, min, map, sum_by, Some};
-ghost use Rattle.std.specs.Prelude.{IsTrue, MatchOption, IfOk, OnErr};
-ghost use Rattle.git_model.specs.ObjectName.{object_name};
-ghost use Rattle.git_model.specs.Content.{content_from};
-ghost use Rattle.content_pool.specs.Pool.{IsAbsent, content, content_of, IsLive, CanHold, HasHoldsLeft};
-ghost use Rattle.content_pool.specs.Pool.{HoldsEachOnce, IsVacant, Puts};
+ghost use Rattle.std.specs.Prelude.{◌≡◌, ℕ, ◌+◌, ◌-◌, ◌<◌, ◌^◌, ◌↔◌, List, length, min, map};
+ghost use Rattle.std.specs.Prelude.{sum_by, Some, IsTrue, MatchOption, IfOk, OnErr};
+ghost use Rattle.git_model.specs.{ObjectName.{object_name}, Content.{content_from}};
+ghost use Rattle.content_pool.specs.Pool.{IsAbsent, content, content_of, IsLive, CanHold};
+ghost use Rattle.content_pool.specs.Pool.{HasHoldsLeft, HoldsEachOnce, IsVacant, Puts};
 ghost use Rattle.content_pool.specs.Index.{Stores, prefix_of};
 ghost use Rattle.content_pool.specs.LiveContents.{live_contents, stored_sizes, ListsLive};
 
@@ -27,8 +26,7 @@ struct Cell {
 }
 
 impl Model for Cell {
-    ghost use Rattle.content_pool.specs.Index.{prefix_of};
-    ghost use Rattle.content_pool.specs.declared.stored.Stored.{Stored};
+    ghost use Rattle.content_pool.specs.{Index.{prefix_of}, declared.stored.Stored.{Stored}};
 
     ghost Value = { Stored };
 
@@ -90,8 +88,7 @@ pub struct PlainPool<N: Naming> {
 
 impl<N: Naming> Model for PlainPool<N> {
     ghost use Rattle.std.specs.Prelude.{map, Some};
-    ghost use Rattle.content_pool.specs.Pool.{Cells};
-    ghost use Rattle.content_pool.specs.Index.{IsPool};
+    ghost use Rattle.content_pool.specs.{Pool.{Cells}, Index.{IsPool}};
 
     ghost Value = { Cells };
 

@@ -3,8 +3,7 @@
 ghost use Rattle.std.specs.Prelude.{◌≡◌, All, IfOk, Some};
 ghost use Rattle.git_model.specs.Tree.{CanWriteTree};
 ghost use Rattle.git_objects.specs.Parts.{entries_of};
-ghost use Rattle.tenant_tables.specs.Trees.{DirectoryStands, tree_summary};
-ghost use Rattle.tenant_tables.specs.View.{summary_of};
+ghost use Rattle.tenant_tables.specs.{Trees.{DirectoryStands, tree_summary}, View.{summary_of}};
 
 use content_pool::Pool;
 use git_objects::{Kind, Name, Naming, TreeEntry, write_tree};
@@ -22,8 +21,7 @@ pub struct Forest<N: Naming> {
 
 impl<N: Naming> Model for Forest<N> {
     ghost use Rattle.std.specs.Prelude.{[]};
-    ghost use Rattle.tenant_tables.specs.IsBackedBy.{Share};
-    ghost use Rattle.tenant_tables.specs.View.{Entries};
+    ghost use Rattle.tenant_tables.specs.{IsBackedBy.{Share}, View.{Entries}};
 
     ghost Value = { Entries };
 

@@ -5,22 +5,16 @@
 //! for a name by going through all of them.
 
 ghost use Rattle.std.specs.Prelude.{◌≡◌, ◌≢◌, ◌<◌, ◌≤◌, ◌-◌, [], All, length, take, Option, None};
-ghost use Rattle.std.specs.Prelude.{position, slice_get, nat_le, OnOk, OnErr};
-ghost use Rattle.std.specs.BTreeMap.Range.{range_contains};
-ghost use Rattle.std.specs.Cmp.Lexicographic.{slice_cmp};
-ghost use Rattle.std.specs.List.{IsDistinct};
-ghost use Rattle.std.specs.Ordering.{nat_cmp};
-ghost use Rattle.std.specs.declared.ops.Bound.TheVariants.{Included};
-ghost use Rattle.std.specs.Option.{option_map};
-ghost use Rattle.std.specs.Str.{bytes_eq};
-ghost use Rattle.git_model.specs.Limits.{objects_limit};
-ghost use Rattle.git_model.specs.ObjectName.{IsObjectName, object_name};
+ghost use Rattle.std.specs.{Prelude.{position, slice_get, nat_le, OnOk, OnErr}, List.{IsDistinct}};
+ghost use Rattle.std.specs.{BTreeMap.Range.{range_contains}, Cmp.Lexicographic.{slice_cmp}};
+ghost use Rattle.std.specs.{Ordering.{nat_cmp}, declared.ops.Bound.TheVariants.{Included}};
+ghost use Rattle.std.specs.{Option.{option_map}, Str.{bytes_eq}};
+ghost use Rattle.git_model.specs.{Limits.{objects_limit}, ObjectName.{IsObjectName, object_name}};
 ghost use Rattle.git_model.specs.Content.{content_from, name_by, same_content};
 ghost use Rattle.git_model.specs.Repository.{object_named};
 ghost use Rattle.content_pool.specs.Pool.{HasHoldsLeft};
 ghost use Rattle.tenant_tables.specs.View.{names, entry_named, slot_of, in_sight};
-ghost use Rattle.tenant_tables.specs.Objects.{objects};
-ghost use Rattle.tenant_tables.specs.IsBackedBy.{IsBackedBy, PreservesOthers};
+ghost use Rattle.tenant_tables.specs.{Objects.{objects}, IsBackedBy.{IsBackedBy, PreservesOthers}};
 ghost use Rattle.tenant_tables.specs.Adding.{Answers, store_fault, Adds, Pushes};
 ghost use Rattle.tenant_tables.specs.Abbreviation.{found_among};
 

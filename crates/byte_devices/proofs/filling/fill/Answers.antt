@@ -1,7 +1,7 @@
 use Rattle.std.proofs.Common.{◌≡◌, refl, arith}
 use Rattle.std.proofs.lemmas.List.{length-append}
 use Rattle.byte_devices.specs.Device.{device_of, seen}
-use Rattle.byte_devices.proofs.ReadLemmas.{well_none, one_well, one_empty, small_front, room_more, room_ends, room_fails}
+use Rattle.byte_devices.proofs.ReadLemmas.{well_none, one_well, one_empty, short_front, room_more, room_ends, room_fails}
 use Rattle.byte_devices.proofs.filling.fill.Goals as goal
 
 pub loop-filled-init : goal.loop-filled-init
@@ -13,20 +13,16 @@ loop-filled-init g c = (
   (λ i. let t = c.type_inv.room i in omega (arith, t)),
 )
 
+pub returns-in-Ok-eq0-clause-bytes : goal.returns-in-Ok-eq0-clause-bytes
+returns-in-Ok-eq0-clause-bytes g c = λ i. let t = c.type_inv.room i in omega (arith, t)
+
 pub returns-in-Ok-eq0-clause-fills : goal.returns-in-Ok-eq0-clause-fills
 returns-in-Ok-eq0-clause-fills g c =
     let none : c.in-Ok-eq0.field-0 ≡ 0 = c.in-Ok-eq0.field-0-test in
     let front = c.split_at_mut.result.0.now in (
       front,
-      record {
-        lacks =
-            let a =
-            length-append front c.read.new.buf in let b =
-            c.read.auto.buf in let d = c.loop-filled-test.true in
-            let e = c.split_at_mut.ensures.front_len in let f = c.split_at_mut.ensures.back_len in omega (arith, a, b, d, e, f);
-        small =
-            small_front front c.read.new.buf (λ i. let t = c.type_inv.room i in omega (arith, t));
-      },
+      short_front front c.read.new.buf (returns-in-Ok-eq0-clause-bytes g c)
+          (let b = c.read.auto.buf in let d = c.loop-filled-test.true in let f = c.split_at_mut.ensures.back_len in omega (arith, b, d, f)),
       room_ends _
           (seen (g.R.Read.remaining (device_of c.loop-filled.reader)) c.loop-filled.reader) _ c.loop-filled.room front c.read.new.buf c.loop-filled.filled
           c.split_at_mut.ensures.front c.loop-filled.invariant.2
@@ -50,19 +46,15 @@ loop-filled-preserved g c =
       (λ i. let t = c.type_inv.room i in omega (arith, t)),
     )
 
+pub returns-in-Err-clause-bytes : goal.returns-in-Err-clause-bytes
+returns-in-Err-clause-bytes g c = λ i. let t = c.type_inv.room i in omega (arith, t)
+
 pub returns-in-Err-clause-fills : goal.returns-in-Err-clause-fills
 returns-in-Err-clause-fills g c =
     let front = c.split_at_mut.result.0.now in (
       front,
-      record {
-        lacks =
-            let a =
-            length-append front c.read.new.buf in let b =
-            c.read.auto.buf in let d = c.loop-filled-test.true in
-            let e = c.split_at_mut.ensures.front_len in let f = c.split_at_mut.ensures.back_len in omega (arith, a, b, d, e, f);
-        small =
-            small_front front c.read.new.buf (λ i. let t = c.type_inv.room i in omega (arith, t));
-      },
+      short_front front c.read.new.buf (returns-in-Err-clause-bytes g c)
+          (let b = c.read.auto.buf in let d = c.loop-filled-test.true in let f = c.split_at_mut.ensures.back_len in omega (arith, b, d, f)),
       room_fails _
           (seen (g.R.Read.remaining (device_of c.loop-filled.reader)) c.loop-filled.reader) _ c.loop-filled.room front c.loop-filled.filled
           c.split_at_mut.ensures.front c.loop-filled.invariant.2 c.in-Err.ensures.bytes c.in-Err.ensures.passed c.in-Err.ensures.faults,
@@ -70,9 +62,3 @@ returns-in-Err-clause-fills g c =
 
 pub returns-clause-bytes : goal.returns-clause-bytes
 returns-clause-bytes g c = c.loop-filled.invariant.3
-
-pub returns-in-Ok-eq0-clause-bytes : goal.returns-in-Ok-eq0-clause-bytes
-returns-in-Ok-eq0-clause-bytes g c = λ i. let t = c.type_inv.room i in omega (arith, t)
-
-pub returns-in-Err-clause-bytes : goal.returns-in-Err-clause-bytes
-returns-in-Err-clause-bytes g c = λ i. let t = c.type_inv.room i in omega (arith, t)

@@ -3,4 +3,4 @@ use Rattle.command_lines.specs.Usage.{tenant_usage}
 use Rattle.command_lines.proofs.usage.extract.Goals as goal
 
 pub returns : goal.returns
-returns c = c.with_target.ensures (tenant_usage (codes "extract")) c.for_tenant.ensures
+returns c = c.with_file.ensures (tenant_usage (codes "extract")) c.for_tenant-command.ensures

@@ -22,7 +22,7 @@ returns-clause-taken g c = calls-one _ _ c.args.service.now c.step-ended.new.sel
 
 pub returns-clause-ended : goal.returns-clause-ended
 returns-clause-ended g c = λ repository bytes streaming.
-    rw c.as_import.ensures
+    rw c.as_result.ensures
     (ends_import _ _ _ _ _ c.step-ended.result _
     (end-step _ _ _ c.step-ended.result _ _ c.args.service.now c.step-ended.new.self refl c.requires.emptied c.step-ended.ensures.own repository bytes refl streaming)
     c.in_ok-write_replies.ensures.written c.in_ok-write_replies.ensures.well)

@@ -22,7 +22,7 @@ returns-clause-taken g c = calls-one _ _ c.args.service.now c.step-fed.new.self 
 
 pub returns-clause-passed : goal.returns-clause-passed
 returns-clause-passed g c = λ repository bytes streaming.
-    rw c.as_import.ensures
+    rw c.as_result.ensures
     (passes_on _ _ _ _ _ _ _ c.step-fed.result _ c.args.service.now c.step-fed.new.self streaming
     (feed-step _ _ _ c.step-fed.result _ _ c.args.service.now c.step-fed.new.self refl c.requires.emptied c.step-fed.ensures.own repository bytes _ refl streaming)
     c.in_ok-write_replies.ensures.written c.in_ok-write_replies.ensures.well)

@@ -1,6 +1,6 @@
-use Rattle.std.proofs.Common.{◌≡◌, ◌-◌, arith}
+use Rattle.std.proofs.Common.{◌≡◌, ◌-◌, ap, subst, arith}
 use Rattle.missing_objects.proofs.Places.{no-places}
-use Rattle.missing_objects.proofs.Sweeping.{at-first, few-open, none-left, settled, sweep-begun, sweep-found, sweep-passed}
+use Rattle.missing_objects.proofs.Sweeping.{at-first, none-left, settled, sweep-begun, sweep-step}
 use Rattle.missing_objects.proofs.sweep.sweep.Goals as goal
 
 pub loop-place-init : goal.loop-place-init
@@ -16,43 +16,25 @@ loop-place-preserved g c = record {
   within = let h = c.loop-place.invariant.within in omega arith;
   size = c.in_ok-visit.ensures.size;
   sweeps = λ good wants haves is.
-      sweep-passed g.N.Naming.digest_of c.args.objects.now good wants haves c.loop-place.place (c.loop-place.place - 1)
+      rw c.from.ensures (sweep-step g.N.Naming.digest_of c.args.objects.now good wants haves c.loop-place.place (c.loop-place.place - 1)
       c.loop-place.found c.loop-place.marks c.visit.new.marks c.in_ok-visit.field-0
       (let h = c.loop-place-test.true in omega arith)
       (let h = c.loop-place-test.true in let w = c.loop-place.invariant.within in omega arith)
-      (c.loop-place.invariant.sweeps good wants haves is) (c.in_ok-visit.ensures.passed good)
-      c.in_ok-visit.ensures.told c.if-branch.false;
-}
-
-pub loop-place-preserved-then-branch : goal.loop-place-preserved-then-branch
-loop-place-preserved-then-branch g c = record {
-  within = let h = c.loop-place.invariant.within in omega arith;
-  size = c.in_ok-visit.ensures.size;
-  sweeps = λ good wants haves is.
-      sweep-found g.N.Naming.digest_of c.args.objects.now good wants haves c.loop-place.place (c.loop-place.place - 1)
-      c.loop-place.found c.loop-place.marks c.visit.new.marks c.in_ok-visit.field-0
-      (let h = c.loop-place-test.true in omega arith)
-      (let h = c.loop-place-test.true in let w = c.loop-place.invariant.within in omega arith)
-      (c.loop-place.invariant.sweeps good wants haves is) (c.in_ok-visit.ensures.passed good)
-      c.in_ok-visit.ensures.told c.if-branch.true;
+      (c.loop-place.invariant.sweeps good wants haves is) (c.in_ok-visit.ensures.passed good) c.in_ok-visit.ensures.told);
 }
 
 pub returns-else-found-open_count-clause-none : goal.returns-else-found-open_count-clause-none
 returns-else-found-open_count-clause-none g c = λ good wants haves is.
     no-places c.loop-place.marks c.loop-place.place
-    (none-left c.args.objects.now wants haves c.loop-place.place c.loop-place.found c.loop-place.marks
-    (c.loop-place.invariant.sweeps good wants haves is)
-    (few-open c.args.objects.now c.open_count.result c.loop-place.found c.loop-place.marks c.loop-place.invariant.size.wanted
-    c.open_count.ensures c.if-found-open_count.false))
+    (none-left c.args.objects.now wants haves c.loop-place.place c.loop-place.found c.open_count.result c.loop-place.marks
+    (c.loop-place.invariant.sweeps good wants haves is) c.loop-place.invariant.size.wanted c.open_count.ensures c.if-found-open_count.false)
 
 pub returns-else-found-open_count-clause-settled : goal.returns-else-found-open_count-clause-settled
 returns-else-found-open_count-clause-settled g c = λ good wants haves is.
-    settled g.N.Naming.digest_of c.args.objects.now good wants haves c.loop-place.place c.loop-place.found c.loop-place.marks
-    (c.loop-place.invariant.sweeps good wants haves is)
-    (none-left c.args.objects.now wants haves c.loop-place.place c.loop-place.found c.loop-place.marks
-    (c.loop-place.invariant.sweeps good wants haves is)
-    (few-open c.args.objects.now c.open_count.result c.loop-place.found c.loop-place.marks c.loop-place.invariant.size.wanted
-    c.open_count.ensures c.if-found-open_count.false))
+    let swept = c.loop-place.invariant.sweeps good wants haves is in
+    settled g.N.Naming.digest_of c.args.objects.now good wants haves c.loop-place.place c.loop-place.found c.loop-place.marks swept
+    (none-left c.args.objects.now wants haves c.loop-place.place c.loop-place.found c.open_count.result c.loop-place.marks
+    swept c.loop-place.invariant.size.wanted c.open_count.ensures c.if-found-open_count.false)
 
 pub returns-after-loop-place-clause-none : goal.returns-after-loop-place-clause-none
 returns-after-loop-place-clause-none g c = λ good wants haves is.

@@ -5,9 +5,6 @@ use Rattle.name_index.proofs.index.most_in_runs.Goals as goal
 
 pub loop-run-preserved : goal.loop-run-preserved
 loop-run-preserved c =
-    let item = ap (most_shared c.args.id.now) c.run-item.is in
-    let before = c.loop-run.invariant in
     let within = c.loop-run-test.true in
-    let more =
-    one_run_more c.args.id.now c.args.runs.now c.loop-run.run-index c.run-item.result (omega arith) in
-    omega (arith, item, before, more, c.most_shared.ensures, c.max-most.ensures, max_is)
+    let more = one_run_more c.args.id.now c.args.runs.now c.loop-run.run-index c.run-item.result (omega arith) in
+    omega (arith, ap (most_shared c.args.id.now) c.run-item.is, c.loop-run.invariant, more, c.most_shared.ensures, c.max-most.ensures, max_is)

@@ -9,8 +9,8 @@ use Rattle.tenant_tables.specs.Trees.{FitsTree}
 use Rattle.tenant_tables.specs.View.{summary_of}
 use Rattle.tenant_tables.specs.declared.summary.Summary.{Summary}
 use Rattle.plain_files.specs.declared.below.Group.{Group}
-use Rattle.file_maps.specs.FileMap.{Listed}
-use Rattle.file_maps.specs.Trees.{grouped, tree_name, entries_within, trees_within}
+use Rattle.file_maps.specs.FileMap.{Listed, IsFile}
+use Rattle.file_maps.specs.Trees.{depth_of, grouped, tree_name, entries_within, trees_within}
 use Rattle.plain_files.specs.Below.{files_below, groups_of, group_of}
 use Rattle.file_maps.specs.Storing.{StoresTrees}
 use Rattle.plain_files.specs.Storable.{IsKnownGroup}
@@ -122,6 +122,12 @@ module _ (digest : List ℕ → List ℕ) (deep : ℕ) (fs : Listed) (gs : List 
   the_entries done sofar are same =
       ap entries_of same ∙ entries_end digest (deep - 1) gs i es fs done sofar are
 
+  all_entries : AllByRecursion IsFile fs → depth_of fs ≤ deep → length gs ≤ i
+      → entries_of es ≡ map (direct_of digest (deep - 1)) (groups_of (take i gs))
+      → groups_of gs ≡ grouped fs → seen ≡ es → entries_of seen ≡ entries_within digest deep fs
+  all_entries each within done sofar are same =
+      the_entries done sofar are same ∙ sym (entries-any digest deep fs each within)
+
 pub store_groups-add_entries-requires-clause-fits : goal.store_groups-add_entries-requires-clause-fits
 store_groups-add_entries-requires-clause-fits g t c =
     let are = c.requires.groups in
@@ -136,28 +142,20 @@ store_groups-add_entries-requires-clause-fits g t c =
 
 pub store_groups-returns-clause-stores : goal.store_groups-returns-clause-stores
 store_groups-returns-clause-stores g t c =
-    let are = c.requires.groups in
-    let entries : entries_of c.deref.result.now ≡ entries_within g.N.Naming.digest_of c.args.deep (files_below c.args.files.now) =
-    the_entries g.N.Naming.digest_of c.args.deep
-    (files_below c.args.files.now) c.args.groups.now c.loop-group.group-index c.deref.result.now c.loop-group.entries.items c.loop-group-test.false c.loop-group.invariant.entries are c.deref.ensures.value
-    ∙ sym
-    (entries-any g.N.Naming.digest_of c.args.deep (files_below c.args.files.now) c.requires.files.each c.requires.deep) in
+    let entries = all_entries g.N.Naming.digest_of c.args.deep (files_below c.args.files.now) c.args.groups.now c.loop-group.group-index c.deref.result.now c.loop-group.entries.items
+    c.requires.files.each c.requires.deep c.loop-group-test.false c.loop-group.invariant.entries c.requires.groups c.deref.ensures.value in
     stores-last g.N.Naming.digest_of (c.args.deep - 1) c.add_entries.result _ _ _ _ _ _ _
     (trees_of g.N.Naming.digest_of (c.args.deep - 1) (take c.loop-group.group-index c.args.groups.now))
     (entries_within g.N.Naming.digest_of c.args.deep (files_below c.args.files.now)) _
     c.loop-group.invariant.adds c.loop-group.invariant.unrefused
-    (trees-any g.N.Naming.digest_of c.args.deep (files_below c.args.files.now) c.args.groups.now c.requires.files.each c.requires.deep are
+    (trees-any g.N.Naming.digest_of c.args.deep (files_below c.args.files.now) c.args.groups.now c.requires.files.each c.requires.deep c.requires.groups
     ∙ ap (λ (l : List (List TreeEntry)). l ++ entries_within g.N.Naming.digest_of c.args.deep (files_below c.args.files.now) ∷ []) (sym (all_trees g.N.Naming.digest_of (c.args.deep - 1) c.args.groups.now c.loop-group.group-index c.loop-group-test.false)))
     (subst (λ (es : List TreeEntry). StoresTrees c.add_entries.result g.N.Naming.digest_of c.loop-group.pool c.loop-group.table c.add_entries.new.pool c.add_entries.new.table (es ∷ []) (tree_name g.N.Naming.digest_of es)) entries c.add_entries.ensures.stores)
 
 pub store_groups-returns-clause-known : goal.store_groups-returns-clause-known
 store_groups-returns-clause-known g t c =
-    let are = c.requires.groups in
-    let entries : entries_of c.deref.result.now ≡ entries_within g.N.Naming.digest_of c.args.deep (files_below c.args.files.now) =
-    the_entries g.N.Naming.digest_of c.args.deep
-    (files_below c.args.files.now) c.args.groups.now c.loop-group.group-index c.deref.result.now c.loop-group.entries.items c.loop-group-test.false c.loop-group.invariant.entries are c.deref.ensures.value
-    ∙ sym
-    (entries-any g.N.Naming.digest_of c.args.deep (files_below c.args.files.now) c.requires.files.each c.requires.deep) in
+    let entries = all_entries g.N.Naming.digest_of c.args.deep (files_below c.args.files.now) c.args.groups.now c.loop-group.group-index c.deref.result.now c.loop-group.entries.items
+    c.requires.files.each c.requires.deep c.loop-group-test.false c.loop-group.invariant.entries c.requires.groups c.deref.ensures.value in
     subst
     (λ (s : Summary). OnOk c.add_entries.result (summary_of (tree_name g.N.Naming.digest_of (entries_within g.N.Naming.digest_of c.args.deep (files_below c.args.files.now))) c.add_entries.new.table.entries ≡ Some s)) c.summary_of.ensures
     (subst (λ (es : List TreeEntry). OnOk c.add_entries.result (summary_of (tree_name g.N.Naming.digest_of es) c.add_entries.new.table.entries ≡ Some c.summary_of.result)) entries c.add_entries.ensures.known)

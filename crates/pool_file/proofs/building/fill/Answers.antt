@@ -8,7 +8,7 @@ use Rattle.pool_file_checks.specs.Quick.{KnowsSums}
 use Rattle.pool_file_checks.proofs.Passing.{holds_all}
 use Rattle.pool_file.specs.declared.tenant.Tenant.{Tenant}
 use Rattle.pool_file.specs.Building.{objects_at, IsChecked, AreUnder}
-use Rattle.pool_file.proofs.Filled.{none_under, adds_again, released_again, all_checked, says_file, are_tenants}
+use Rattle.pool_file.proofs.Filled.{none_under, adds_again, released_again, all_checked, filled}
 use Rattle.pool_file.proofs.building.fill.Goals as goal
 
 pub store_contents-requires-clause-checked : goal.store_contents-requires-clause-checked
@@ -47,34 +47,19 @@ add_tenants-requires-clause-checked g c =
     (sym c.deref-2.ensures.value)
     (all_checked digest (file_of c.args.file) g.met.N.Naming.answers_names c.requires.checked))
 
-pub returns-clause-says : goal.returns-clause-says
-returns-clause-says g c =
+pub returns : goal.returns
+returns g c =
     let digest = g.N.Naming.digest_of in
     let slots = c.in_ok-slots.slots.items in
     let stored = c.store_contents.new.pool in
     let q = c.add_tenants.new.pool in
     let z = c.release_contents.new.pool in
     let new = c.add_tenants.new.tenants.items in
-    says_file digest (file_of c.args.file) g.met.N.Naming.answers_names c.requires.checked slots
+    let both = filled digest (file_of c.args.file) g.met.N.Naming.answers_names c.requires.checked slots
     stored q z new c.in_ok-slots.ensures.stored
     (adds_again tenant_of digest c.deref.result.now slots stored q c.args.tenants.now.items new
     c.deref-2.result.now c.args.file.tenants.items c.deref.ensures.value c.requires.none
     c.deref-2.ensures.value c.in_ok-add_tenants.ensures)
     (released_again c.deref-3.result.now slots q z c.deref-3.ensures.value
-    c.release_contents.ensures.counts c.release_contents.ensures.contents)
-
-pub returns-clause-tenants : goal.returns-clause-tenants
-returns-clause-tenants g c =
-    let digest = g.N.Naming.digest_of in
-    let slots = c.in_ok-slots.slots.items in
-    let stored = c.store_contents.new.pool in
-    let q = c.add_tenants.new.pool in
-    let z = c.release_contents.new.pool in
-    let new = c.add_tenants.new.tenants.items in
-    are_tenants digest (file_of c.args.file) g.met.N.Naming.answers_names c.requires.checked slots
-    stored q z new c.in_ok-slots.ensures.stored
-    (adds_again tenant_of digest c.deref.result.now slots stored q c.args.tenants.now.items new
-    c.deref-2.result.now c.args.file.tenants.items c.deref.ensures.value c.requires.none
-    c.deref-2.ensures.value c.in_ok-add_tenants.ensures)
-    (released_again c.deref-3.result.now slots q z c.deref-3.ensures.value
-    c.release_contents.ensures.counts c.release_contents.ensures.contents)
+    c.release_contents.ensures.counts c.release_contents.ensures.contents) in
+    record { says = both.0; tenants = both.1 }

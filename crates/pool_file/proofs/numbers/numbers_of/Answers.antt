@@ -1,7 +1,7 @@
-use Rattle.std.proofs.Common.{◌≡◌, ◌<◌, ℕ, [], ◌∷◌, ◌++◌, length, map, arith, sym, ap, ◌∙◌}
+use Rattle.std.proofs.Common.{◌<◌, ℕ, [], ◌∷◌, ◌++◌, length, map, sym, ap, ◌∙◌}
 use Rattle.std.specs.Prelude.{slice_index}
 use Rattle.std.proofs.lemmas.List.{map-append}
-use Rattle.pool_file.proofs.TenantSlots.{before_count, before_end, counted_slots, first_slots, told_all, told_more, told_there}
+use Rattle.pool_file.proofs.TenantSlots.{before_count, counted_all, first_slots, told_all, told_before, told_more}
 use Rattle.pool_file.proofs.numbers.numbers_of.Goals as goal
 use Rattle.pool_file.proofs.numbers.numbers_of.Goals.{in-Some+in_ok-push, in_default}
 
@@ -25,19 +25,12 @@ loop-place-preserved c = elim c.match-at.branch [
       ∙ map-append number (first_slots es c.loop-place.place) (_ ∷ []))
   | in_default w ↦
       let v = c.args.tenant.now in
-      let l = before_end [] v.table.now.entries v.objects c.loop-place.place
-      c.object_count-place-end.result (c.object_count-place-end.ensures [])
-      c.loop-place-test.true in
-      absurd (told_there v.table.now.entries c.loop-place.place w.in_default.ensures l)
+      absurd (told_before v.table.now.entries v.objects c.loop-place.place _ (c.object_count-place-end.ensures []) c.loop-place-test.true w.in_default.ensures)
 ]
 
 pub returns : goal.returns
 returns c =
-    let v = c.args.tenant.now in
-    let end = c.loop-place.auto.place-end in
-    let stop = c.loop-place-test.false in
-    let all : c.loop-place.place ≡ c.object_count-place-end.result = omega (arith, end, stop) in
     c.loop-place.invariant
     ∙ ap (map (λ s. slice_index c.args.by_slot.now s))
-    (counted_slots [] v.table.now.entries v.objects c.loop-place.place
-    (all ∙ c.object_count-place-end.ensures []))
+    (counted_all c.args.tenant.now.table.now.entries c.args.tenant.now.objects c.loop-place.place _ (c.object_count-place-end.ensures [])
+    c.loop-place.auto.place-end c.loop-place-test.false)

@@ -20,15 +20,15 @@ returns-in_err-check_numbers c =
     λ digest same stored judged. rw (p.1, p.2) (numbers_stop digest c.args.version c.args.objects.now
     (option_map (λ o. o.now) c.args.last) (tenant_of c.args.tenant.now) c.in_err-check_numbers.field-0.0 c.in_ok-check_name.ensures c.in_err-check_numbers.ensures)
 
-pub returns-in_err-check_unless_judged : goal.returns-in_err-check_unless_judged
-returns-in_err-check_unless_judged c =
-    let p = err_from_is_err_and c.from_residual-in_err-check_unless_judged.result c.from_residual-in_err-check_unless_judged.ensures.1 in
+pub returns-in_err-check_own : goal.returns-in_err-check_own
+returns-in_err-check_own c =
+    let p = err_from_is_err_and c.from_residual-in_err-check_own.result c.from_residual-in_err-check_own.ensures.1 in
     let xs = c.args.objects.now in let last = option_map (λ o. o.now) c.args.last in let t = tenant_of c.args.tenant.now in
     let below = subst (All (λ n. n < length xs)) (sym c.deref.ensures.value) c.in_ok-check_numbers.ensures.0 in
     let ready = counted c.args.version xs last t c.in_ok-check_name.ensures c.in_ok-check_numbers.ensures in
-    λ digest same stored judged. rw (p.1, p.2) (own_stops digest c.args.version xs last t c.in_err-check_unless_judged.field-0.0 ready
-    (subst (λ (l : List ℕ). Checked (own_checks digest (objects_of xs) l) (Err c.in_err-check_unless_judged.field-0.0)) c.deref.ensures.value
-    (c.in_err-check_unless_judged.ensures digest same stored below judged)))
+    λ digest same stored judged. rw (p.1, p.2) (own_stops digest c.args.version xs last t c.in_err-check_own.field-0.0 ready
+    (subst (λ (l : List ℕ). Checked (own_checks digest (objects_of xs) l) (Err c.in_err-check_own.field-0.0)) c.deref.ensures.value
+    (c.in_err-check_own.ensures digest same stored below judged)))
 
 pub returns : goal.returns
 returns c =
@@ -36,5 +36,5 @@ returns c =
     let below = subst (All (λ n. n < length xs)) (sym c.deref.ensures.value) c.in_ok-check_numbers.ensures.0 in
     let ready = counted c.args.version xs last t c.in_ok-check_name.ensures c.in_ok-check_numbers.ensures in
     λ digest same stored judged. refs_decide digest c.args.version xs last t c.check_refs.result ready
-    (subst (λ (l : List ℕ). Passes (own_checks digest (objects_of xs) l)) c.deref.ensures.value (c.in_ok-check_unless_judged.ensures digest same stored below judged))
+    (subst (λ (l : List ℕ). Passes (own_checks digest (objects_of xs) l)) c.deref.ensures.value (c.in_ok-check_own.ensures digest same stored below judged))
     c.check_refs.ensures

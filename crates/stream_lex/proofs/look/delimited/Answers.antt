@@ -2,7 +2,7 @@ use Rattle.std.proofs.Common.{◌≡◌, ◌≢◌, ◌-◌, Some, length, take,
 use Rattle.std.proofs.lemmas.Bool.{false≢true}
 use Rattle.std.proofs.lemmas.Bool.Decides.{Decides-eqb}
 use Rattle.std.proofs.lemmas.Slice.Eq.{slice_eq-Decides}
-use Rattle.stream_lex.specs.Headers.{HasNoLineEnd, delimiter_of}
+use Rattle.stream_lex.specs.Headers.{delimiter_of}
 use Rattle.stream_lex.proofs.Firsts.{before-unfinished, before-overdue}
 use Rattle.stream_lex.proofs.Lookings.{text_at, in_next_line, at_delimiter, delimiter_length, before_delimiter_line, all_seen}
 use Rattle.stream_lex.proofs.Searching.{goes_on}
@@ -34,10 +34,8 @@ lines-preserved c =
 pub returns-then-bytes-header-clause-first : goal.returns-then-bytes-header-clause-first
 returns-then-bytes-header-clause-first c =
     let bytes = c.args.bytes.now in
-    let delimiter : c.split_at-2.result.1.now ≡ delimiter_of (take (c.args.header - 1) bytes) = c.split_at-2.ensures.back ∙ ap (drop 7) c.split_at.ensures.front in
-    let none : HasNoLineEnd (drop c.lines.search.seen bytes) = c.in_default.ensures.found in
-    let long = ap length delimiter in
-    sym (before_delimiter_line bytes c.lines.search.seen c.args.header c.lines.line c.lines.invariant.1.within c.lines.invariant.0 none
+    let long = ap length (c.split_at-2.ensures.back ∙ ap (drop 7) c.split_at.ensures.front) in
+    sym (before_delimiter_line bytes c.lines.search.seen c.args.header c.lines.line c.lines.invariant.1.within c.lines.invariant.0 c.in_default.ensures.found
     ∙ before-unfinished (delimiter_of (take (c.args.header - 1) bytes)) c.args.header bytes (omega (arith, c.lines.invariant.0.lines)))
 
 pub returns-then-bytes-header-clause-placed : goal.returns-then-bytes-header-clause-placed
@@ -48,8 +46,6 @@ returns-then-bytes-header-clause-placed c =
 pub returns-else-bytes-header-clause-first : goal.returns-else-bytes-header-clause-first
 returns-else-bytes-header-clause-first c =
     let bytes = c.args.bytes.now in
-    let delimiter : c.split_at-2.result.1.now ≡ delimiter_of (take (c.args.header - 1) bytes) = c.split_at-2.ensures.back ∙ ap (drop 7) c.split_at.ensures.front in
-    let none : HasNoLineEnd (drop c.lines.search.seen bytes) = c.in_default.ensures.found in
-    let long = ap length delimiter in
-    sym (before_delimiter_line bytes c.lines.search.seen c.args.header c.lines.line c.lines.invariant.1.within c.lines.invariant.0 none
+    let long = ap length (c.split_at-2.ensures.back ∙ ap (drop 7) c.split_at.ensures.front) in
+    sym (before_delimiter_line bytes c.lines.search.seen c.args.header c.lines.line c.lines.invariant.1.within c.lines.invariant.0 c.in_default.ensures.found
     ∙ before-overdue (delimiter_of (take (c.args.header - 1) bytes)) c.args.header bytes (omega arith))

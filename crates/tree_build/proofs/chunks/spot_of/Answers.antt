@@ -3,8 +3,8 @@ use Rattle.tree_build.specs.Chunks.{before, IsSpot}
 use Rattle.tree_build.proofs.Spots.{spot_in}
 use Rattle.tree_build.proofs.chunks.spot_of.Goals as goal
 
-pub returns : goal.returns
-returns c =
+pub returns-clause-spot : goal.returns-clause-spot
+returns-clause-spot c =
     let vs = c.args.chunks.now in
     let k = c.chunk_of-chunk.result in
     let one : k + 1 ≡ suc k = omega arith in

@@ -31,5 +31,5 @@ returns-clause-lists g c =
     (entries_of_shape (shape_of (all c.chunks-chunks.result.now)))
     (ap (λ (l : List Row). entries_of_shape (shape_of l)) c.chunks-chunks.ensures) c.in_ok-contents.ensures.ids
     c.add_contents.new.pool c.add_contents.new.table c.add_contents.result
-    (c.add_contents.ensures (entries_of_shape (shape_of c.args.entries.now.items))
+    (c.add_contents.ensures.stores (entries_of_shape (shape_of c.args.entries.now.items))
     (c.in_ok-contents.ensures.contents ∙ ap (λ (l : List Row). tree_contents (entries_of_shape (shape_of l))) c.chunks-chunks.ensures))

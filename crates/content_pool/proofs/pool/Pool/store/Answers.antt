@@ -1,5 +1,5 @@
 use Rattle.std.proofs.Common.{sym, ap, ◌∙◌, refl, subst}
-use Rattle.content_pool.specs.Pool.{Cells, cell, HoldsEachOnce}
+use Rattle.content_pool.specs.Pool.{Cells, HoldsEachOnce}
 use Rattle.content_pool.specs.Index.{prefix_of}
 use Rattle.content_pool.proofs.PoolLemmas.{Writes-after, IsPool-once, IsPool-stored, IsIndexed-stored, Puts-stored}
 use Rattle.content_pool.proofs.pool.Pool.store.Goals as goal
@@ -16,34 +16,18 @@ returns-in_err-note-clause-once g c =
 
 pub invariant_of-self-2 : goal.invariant_of-self-2
 invariant_of-self-2 g c =
-    let same = ap (λ s. s.slots) c.reserve.ensures.rest_kept in
-    let told = c.insert_reserved.ensures.key ∙ sym c.vacant_key-key.ensures.value in
-    let w =
-    Writes-after c.self.inside.cells _ _ _ _ _ same told c.insert_reserved.ensures.updates in
-    let was =
-    ap (λ p. cell p c.vacant_key-key.result) (sym same) ∙ c.vacant_key-key.ensures.vacant in
+    let at = Writes-after c.self.inside.cells _ _ _ _ _ (ap (λ s. s.slots) c.reserve.ensures.rest_kept) c.vacant_key-key.ensures.vacant
+    (c.insert_reserved.ensures.key ∙ sym c.vacant_key-key.ensures.value) c.insert_reserved.ensures.updates in
     let absent = rw (← c.self.view_is) at c.requires.absent in (
-      IsPool-stored _ _ _ _ was w _ c.self.invariant.0 (c.of-prefix.ensures ∙ ap prefix_of c.requires.named) refl absent,
-      IsIndexed-stored _ _ _ _ was w _ _ c.self.invariant.1 c.in_ok-note.ensures.ok,
+      IsPool-stored _ _ _ _ at.0 at.1 _ c.self.invariant.0 (c.of-prefix.ensures ∙ ap prefix_of c.requires.named) refl absent,
+      IsIndexed-stored _ _ _ _ at.0 at.1 _ _ c.self.invariant.1 c.in_ok-note.ensures.ok,
     )
 
 pub returns-clause-puts : goal.returns-clause-puts
 returns-clause-puts g c =
-    let same = ap (λ s. s.slots) c.reserve.ensures.rest_kept in
-    let told = c.insert_reserved.ensures.key ∙ sym c.vacant_key-key.ensures.value in
-    let w =
-    Writes-after c.self.inside.cells _ _ _ _ _ same told c.insert_reserved.ensures.updates in
-    let was =
-    ap (λ p. cell p c.vacant_key-key.result) (sym same) ∙ c.vacant_key-key.ensures.vacant in
-    rw (← c.self.view_is) (Puts-stored _ _ _ _ was w refl)
+    let at = Writes-after c.self.inside.cells _ _ _ _ _ (ap (λ s. s.slots) c.reserve.ensures.rest_kept) c.vacant_key-key.ensures.vacant
+    (c.insert_reserved.ensures.key ∙ sym c.vacant_key-key.ensures.value) c.insert_reserved.ensures.updates in
+    rw (← c.self.view_is) (Puts-stored _ _ _ _ at.0 at.1 refl)
 
 pub returns-clause-once : goal.returns-clause-once
-returns-clause-once g c =
-    let same = ap (λ s. s.slots) c.reserve.ensures.rest_kept in
-    let told = c.insert_reserved.ensures.key ∙ sym c.vacant_key-key.ensures.value in
-    let w =
-    Writes-after c.self.inside.cells _ _ _ _ _ same told c.insert_reserved.ensures.updates in
-    let was =
-    ap (λ p. cell p c.vacant_key-key.result) (sym same) ∙ c.vacant_key-key.ensures.vacant in
-    let absent = rw (← c.self.view_is) at c.requires.absent in
-    IsPool-once _ _ (IsPool-stored _ _ _ _ was w _ c.self.invariant.0 (c.of-prefix.ensures ∙ ap prefix_of c.requires.named) refl absent)
+returns-clause-once g c = IsPool-once _ _ (invariant_of-self-2 g c).0

@@ -1,11 +1,6 @@
-use Rattle.std.proofs.Common.{arith, Bool, List, false, get_or, ap, ◌∙◌}
+use Rattle.std.proofs.Common.{Bool, List, false, get_or, ap, ◌∙◌}
 use Rattle.missing_objects.proofs.Words.{flag-read, in-flags, in-words}
 use Rattle.missing_objects.proofs.flags.Flags.get.Goals as goal
-
-pub index-requires : goal.index-requires
-index-requires c =
-    let lt = in-words c.self.inside.words.items c.self.inside.len c.args.place c.args.self.now c.self.view_is c.requires c.self.invariant in
-    let ok = c.self.inside.words.ok.0 in omega arith
 
 pub returns : goal.returns
 returns c =

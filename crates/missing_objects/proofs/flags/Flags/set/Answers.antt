@@ -1,11 +1,6 @@
-use Rattle.std.proofs.Common.{arith, Bool, List, true, set, ap, ◌∙◌}
+use Rattle.std.proofs.Common.{Bool, List, true, set, ap, ◌∙◌}
 use Rattle.missing_objects.proofs.Words.{flag-set, in-flags, in-words}
 use Rattle.missing_objects.proofs.flags.Flags.set.Goals as goal
-
-pub index_mut-requires : goal.index_mut-requires
-index_mut-requires c =
-    let lt = in-words c.self.inside.words.items c.self.inside.len c.args.place c.args.self.now c.self.view_is c.requires c.self.invariant in
-    let ok = c.self.inside.words.ok.0 in omega arith
 
 pub returns : goal.returns
 returns c =

@@ -1,4 +1,4 @@
-use Rattle.std.proofs.Common.{List, ℕ, Some, sym, ap, ◌∙◌, ◌++◌, ◌∷◌, []}
+use Rattle.std.proofs.Common.{rules, List, ℕ, Some, sym, ap, ◌∙◌, ◌++◌, ◌∷◌, []}
 use Rattle.std.proofs.lemmas.Result.{err_from_is_err_and}
 use Rattle.tenant_tables.specs.Objects.{objects}
 use Rattle.open_commits.specs.OpenCommit.{shown_in}
@@ -21,7 +21,7 @@ returns-clause-changes g c good kind =
     let put = rw c.root.ensures at (c.in_ok-put_tree.ensures.changes good told.1) in
     start-done os c.args.id c.in_ok-tree.tree c.push.new.self.items (shown_in os c.args.self.now)
     (shown_in os c.put_tree-2.new.self) told.0 put
-    (c.in_ok-push.ensures.items ∙ ap (λ (l : List (List ℕ)). l ++ c.args.id ∷ []) c.clear.ensures.items)
+    (search rules ∙ ap (λ (l : List (List ℕ)). l ++ c.args.id ∷ []) c.clear.ensures.items)
 
 pub returns-clause-kept : goal.returns-clause-kept
 returns-clause-kept g c good kind known =

@@ -4,21 +4,15 @@ use Rattle.std.specs.Prelude.{slice_index_or, slice_set}
 use Rattle.std.specs.Vec.{with_item}
 use Rattle.tree_build.specs.declared.dir.Chunk.{Chunk}
 use Rattle.tree_build.specs.Chunks.{Listing, all, IsSpot}
-use Rattle.tree_build.proofs.Spots.{Row, Chunks, spot_chunk, spot_offset, spot_at, spot_set, starts_set}
+use Rattle.tree_build.proofs.Spots.{Row, Chunks, spot_offset, spot_at, spot_set, starts_set}
 use Rattle.tree_build.proofs.dir.Entries.node_mut.Goals as goal
-
-pub index_mut-chunk-requires : goal.index_mut-chunk-requires
-index_mut-chunk-requires c =
-    let k = spot_chunk c.deref.result.now c.args.place c.spot_of-spot.result.chunk c.spot_of-spot.result.offset c.spot_of-spot.ensures in
-    let n = c.deref.ensures.len in
-    omega arith
 
 pub index_mut-requires : goal.index_mut-requires
 index_mut-requires c =
     let v = c.index_mut-chunk.result.now in
     let o = c.spot_of-spot.result.offset in
     let n = v.entries.ok.0 in
-    let spot = subst (λ (l : Chunks). IsSpot l c.args.place c.spot_of-spot.result.chunk o) c.deref.ensures.value c.spot_of-spot.ensures in
+    let spot = subst (λ (l : Chunks). IsSpot l c.args.place c.spot_of-spot.result.chunk o) c.deref.ensures.value c.spot_of-spot.ensures.spot in
     let within = subst (λ u. o < length u.entries.items) (sym c.index_mut-chunk.ensures.value)
     (spot_offset c.self.inside.chunks.items c.args.place c.spot_of-spot.result.chunk o spot v) in
     omega arith
@@ -28,7 +22,7 @@ invariant_of-self-lent c w =
     let v = c.index_mut-chunk.result.now in
     let k = c.spot_of-spot.result.chunk in
     let o = c.spot_of-spot.result.offset in
-    let spot = subst (λ (l : Chunks). IsSpot l c.args.place k o) c.deref.ensures.value c.spot_of-spot.ensures in
+    let spot = subst (λ (l : Chunks). IsSpot l c.args.place k o) c.deref.ensures.value c.spot_of-spot.ensures.spot in
     let y : Row = (c.index_mut.result.now.0, w) in
     let u : Chunk = record { start = v.start; entries = with_item v.entries o y } in (
       c.self.invariant.0
@@ -46,7 +40,7 @@ returns c =
     let x : Row = c.index_mut.result.now in
     let k = c.spot_of-spot.result.chunk in
     let o = c.spot_of-spot.result.offset in
-    let spot = subst (λ (l : Chunks). IsSpot l c.args.place k o) c.deref.ensures.value c.spot_of-spot.ensures in
+    let spot = subst (λ (l : Chunks). IsSpot l c.args.place k o) c.deref.ensures.value c.spot_of-spot.ensures.spot in
     let there : x ≡ slice_index_or c.args.self.now.items c.args.place x =
     c.index_mut.ensures.value ∙ ap (λ u. slice_index_or u.entries.items o x) c.index_mut-chunk.ensures.value
     ∙ spot_at c.self.inside.chunks.items c.args.place k o spot v x

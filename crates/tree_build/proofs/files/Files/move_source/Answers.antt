@@ -63,9 +63,8 @@ put_here-requires-clause-directory g c = λ root.
 
 pub put_here-requires-clause-few : goal.put_here-requires-clause-few
 put_here-requires-clause-few g c =
-    let old = files_in c.args.objects.now c.args.self.now in
-    subst (λ (l : Listed). length l ≤ 1048576) (sym (source g (goal.at.put_here-requires-clause-few g c).In-Some).files)
-    (few-moved old c.args.from.now c.requires.branch.files)
+    few-moved (files_in c.args.objects.now c.args.self.now) c.args.from.now c.requires.branch.files _
+    (ap (λ (l : Listed). length l) (source g (goal.at.put_here-requires-clause-few g c).In-Some).files)
 
 pub put_here-requires-clause-may : goal.put_here-requires-clause-may
 put_here-requires-clause-may g c =

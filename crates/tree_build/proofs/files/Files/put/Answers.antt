@@ -7,7 +7,7 @@ use Rattle.file_maps.specs.Edits.{put_at}
 use Rattle.tree_build.specs.Branch.{files_in}
 use Rattle.tree_build.specs.Putting.{file_held}
 use Rattle.tree_build.proofs.Puts.{root_fault, long_fault, one_good, edits_put, may_put}
-use Rattle.tree_build.proofs.Branches.{branch_few}
+use Rattle.tree_build.proofs.Branches.{branch_small}
 use Rattle.tree_build.proofs.OpenStays.{on_ok_both, open_file}
 use Rattle.tree_build.proofs.files.Files.put.Goals as goal
 
@@ -79,11 +79,8 @@ returns-clause-open g c =
 
 pub overflow_add-total : goal.overflow_add-total
 overflow_add-total g c =
-    let os = objects c.args.pool.now c.args.table.now.entries in
-    let b = (rw c.of-objects.ensures at c.in_ok-open_to.ensures.branch) in
-    let few = branch_few os c.open_to.new.self b in
-    let all = c.file_count-total.ensures ∙ b.counted in
-    omega arith
+    let few = branch_small (objects c.args.pool.now c.args.table.now.entries) c.open_to.new.self (rw c.of-objects.ensures at c.in_ok-open_to.ensures.branch) in
+    omega (arith, c.file_count-total.ensures)
 
 pub returns-clause-branch : goal.returns-clause-branch
 returns-clause-branch g c = λ ne. (rw c.of-objects.ensures at c.put_node.ensures.puts.still) ne (rw c.of-objects.ensures at c.in_ok-open_to.ensures.branch)

@@ -3,19 +3,15 @@ use Rattle.file_maps.specs.StoredFiles.{stored_files}
 use Rattle.tree_build.specs.Shape.{held_files}
 use Rattle.tree_build.specs.Branch.{files_in}
 use Rattle.tree_build.specs.Nodes.{held}
-use Rattle.tree_build.proofs.Branches.{branch_few}
+use Rattle.tree_build.proofs.Branches.{branch_small}
 use Rattle.tree_build.proofs.Moves.{put-good, put-edits}
 use Rattle.tree_build.proofs.Puts.{may_put}
 use Rattle.tree_build.proofs.files.Files.put_moved.Goals as goal
 
 pub overflow_add-total : goal.overflow_add-total
 overflow_add-total g c =
-    let os = c.args.objects.now in
-    let b = c.in_ok-open_to.ensures.branch in
-    let few = branch_few os c.open_to.new.self b in
-    let all = c.file_count.ensures ∙ b.counted in
-    let more = c.requires.few in
-    omega arith
+    let few = branch_small c.args.objects.now c.open_to.new.self c.in_ok-open_to.ensures.branch in
+    omega (arith, c.file_count.ensures, c.requires.few)
 
 pub put_here-requires-clause-may : goal.put_here-requires-clause-may
 put_here-requires-clause-may g c =

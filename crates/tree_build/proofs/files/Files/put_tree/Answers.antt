@@ -10,7 +10,7 @@ use Rattle.tree_build.specs.Branch.{files_in}
 use Rattle.tree_build.specs.Limits.{may_stand}
 use Rattle.tree_build.specs.Nodes.{held}
 use Rattle.tree_build.proofs.Limits.{put_good, edits_fit, few_stand}
-use Rattle.tree_build.proofs.Branches.{branch_few}
+use Rattle.tree_build.proofs.Branches.{branch_small}
 use Rattle.tree_build.proofs.Puts.{may_put}
 use Rattle.tree_build.proofs.Grafted.{none_put, placeable}
 use Rattle.tree_build.proofs.files.Files.put_tree.Goals as goal
@@ -64,13 +64,9 @@ returns-clause-open g c =
 
 pub overflow_add-total : goal.overflow_add-total
 overflow_add-total g c =
-    let os = c.args.objects.now in
-    let b = c.in_ok-open_to.ensures.branch in
-    let few = branch_few os c.open_to.new.self b in
-    let all = c.file_count.ensures ∙ b.counted in
-    let more = few_stand c.args.path.now (stored_files os c.args.name.now) c.requires.fits in
-    let files = c.requires.files in
-    omega arith
+    let few = branch_small c.args.objects.now c.open_to.new.self c.in_ok-open_to.ensures.branch in
+    let more = few_stand c.args.path.now (stored_files c.args.objects.now c.args.name.now) c.requires.fits in
+    omega (arith, c.file_count.ensures, c.requires.files)
 
 pub returns-clause-branch : goal.returns-clause-branch
 returns-clause-branch g c = λ ne. c.put_node.ensures.puts.still ne c.in_ok-open_to.ensures.branch

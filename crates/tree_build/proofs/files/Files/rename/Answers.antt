@@ -1,8 +1,6 @@
-use Rattle.std.proofs.Common.{◌≡◌, sym, ap, ◌∙◌, subst}
-use Rattle.std.specs.Prelude.{None, Err}
-use Rattle.std.proofs.lemmas.Result.{err_from_is_err_and}
+use Rattle.std.proofs.Common.{◌≡◌, sym, subst}
+use Rattle.std.specs.Prelude.{None}
 use Rattle.tenant_tables.specs.Objects.{objects}
-use Rattle.file_maps.specs.declared.fault.Fault.{Fault}
 use Rattle.file_maps.specs.Calls.{Edits}
 use Rattle.file_maps.specs.Edits.{files_at, moved, renamed, move_fault}
 use Rattle.file_maps.specs.FileMap.{FileMap}
@@ -13,13 +11,8 @@ use Rattle.tree_build.proofs.files.Files.rename.Goals as goal
 
 pub returns-in_err-open_source-clause-edits : goal.returns-in_err-open_source-clause-edits
 returns-in_err-open_source-clause-edits g c =
-    let os = objects c.args.pool.now c.args.table.now.entries in
-    let old = files_in os c.args.self.now in
-    let failed = err_from_is_err_and c.from_residual.result c.from_residual.ensures.1 in
-    refused c.from_residual.result c.in_err-open_source.field-0.0
-    (failed.1 ∙ ap (λ (e : Fault). Err e) failed.2)
-    old (files_in os c.open_source.new.self) (moved c.args.to.now (files_at old c.args.from.now))
-    (renamed old c.args.from.now c.args.to.now)
+    let old = files_in (objects c.args.pool.now c.args.table.now.entries) c.args.self.now in
+    refused c.from_residual.result _ c.from_residual.ensures.1 old _ _ (renamed old c.args.from.now c.args.to.now)
     (rw c.of-objects.ensures at c.in_err-open_source.ensures.refusal) (rw c.of-objects.ensures at c.in_err-open_source.ensures.files)
 
 pub move_source-requires-clause-clean : goal.move_source-requires-clause-clean

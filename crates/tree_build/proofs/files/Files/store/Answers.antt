@@ -1,17 +1,19 @@
-use Rattle.std.proofs.Common.{sym, ap, ◌∙◌, subst, arith}
+use Rattle.std.proofs.Common.{◌≡◌, ℕ, sym, ap, ◌∙◌, subst, arith}
 use Rattle.tenant_tables.specs.Objects.{objects}
 use Rattle.file_maps.specs.FileMap.{Path, Listed}
 use Rattle.file_maps.specs.Edits.{cut}
 use Rattle.file_maps.specs.Storable.{AreStorable}
 use Rattle.file_maps.specs.StoredFiles.{stored_files}
-use Rattle.tree_build.specs.Branch.{Branch}
+use Rattle.tree_build.specs.Branch.{Branch, IsBranch, files_in}
 use Rattle.tree_build.specs.Nodes.{held}
 use Rattle.tree_build.specs.Shape.{held_files}
 use Rattle.tree_build.specs.Stores.{bare_held}
 use Rattle.tree_build.proofs.Later.{stores-grow}
 use Rattle.tree_build.proofs.Ordered.{branch_listed}
-use Rattle.tree_build.proofs.StoredAt.{StoresFiles, closed-same, files-kept, branch-kept, root-storable}
+use Rattle.tree_build.proofs.StoredAt.{StoresFiles, closed-same, branch-kept, root-storable}
 use Rattle.tree_build.proofs.files.Files.store.Goals as goal
+use Rattle.tree_build.proofs.files.Files.store.Goals.{After-store_path}
+use Rattle.tree_build.proofs.files.Files.store.Given.{Over}
 
 pub store_path-requires-clause-storable : goal.store_path-requires-clause-storable
 store_path-requires-clause-storable g c =
@@ -29,21 +31,22 @@ returns-clause-stores g c =
     ∙ ap (cut c.args.at.now) (sym (branch_listed os c.args.self.now c.requires.branch.held)))
     c.store_path.ensures.stores
 
-pub returns-clause-branch : goal.returns-clause-branch
-returns-clause-branch g c =
-    let os = objects c.args.pool.now c.args.table.now.entries in
+-- the branch is the same among more objects
+kept : (g : Over) (c : After-store_path g) (reads : ℕ)
+    → (let new : Branch = record { root = held c.store_path.new.node; files = c.self.inside.files; reads = reads } in
+    let after = objects c.store_path.new.pool c.store_path.new.table.entries in
+    IsBranch after new × (files_in after new ≡ files_in (objects c.args.pool.now c.args.table.now.entries) c.args.self.now))
+kept g c reads =
     let grows = stores-grow g.N.Naming.digest_of c.store_path.result c.args.pool.now c.store_path.new.pool c.args.table.now c.store_path.new.table _ _ c.store_path.ensures.stores in
-    branch-kept os (objects c.store_path.new.pool c.store_path.new.table.entries) grows c.args.self.now _ c.requires.branch
+    branch-kept _ _ grows c.args.self.now _ c.requires.branch
     (c.store_path.ensures.same ∙ ap (λ (b : Branch). bare_held b.root) c.self.view_is)
     c.store_path.ensures.sound (ap (λ (b : Branch). b.files) c.self.view_is)
 
+pub returns-clause-branch : goal.returns-clause-branch
+returns-clause-branch g c = (kept g (goal.at.returns-clause-branch g c).After-store_path _).0
+
 pub returns-clause-files : goal.returns-clause-files
-returns-clause-files g c =
-    let os = objects c.args.pool.now c.args.table.now.entries in
-    let grows = stores-grow g.N.Naming.digest_of c.store_path.result c.args.pool.now c.store_path.new.pool c.args.table.now c.store_path.new.table _ _ c.store_path.ensures.stores in
-    files-kept os (objects c.store_path.new.pool c.store_path.new.table.entries) grows c.args.self.now _ c.requires.branch
-    (c.store_path.ensures.same ∙ ap (λ (b : Branch). bare_held b.root) c.self.view_is)
-    c.store_path.ensures.sound (ap (λ (b : Branch). b.files) c.self.view_is)
+returns-clause-files g c = (kept g (goal.at.returns-clause-files g c).After-store_path _).1
 
 pub returns-clause-open : goal.returns-clause-open
 returns-clause-open g c =
