@@ -14,7 +14,7 @@ use Rattle.git_model.proofs.Least.{least}
 use Rattle.git_model.proofs.Earlier.{place_within, references_fall}
 use Rattle.commit_walk.proofs.Named.{there, not_there}
 use Rattle.commit_walk.proofs.Walks.{Reaches-itself}
-use Rattle.export_text.specs.Marking.{marked}
+use Rattle.export_text.specs.Marking.{with_flags}
 
 -- The flag of a name's object is set, if there is such an object.
 abbrev pub IsOn : List Object → List Bool → List ℕ → Type 0
@@ -85,33 +85,33 @@ onward leads from to next r among = record {
 
 module _ (os : List Object) where
   pub marked-length : (ids : List (List ℕ)) (flags : List Bool)
-      → length (marked os flags ids) ≡ length flags
+      → length (with_flags os flags ids) ≡ length flags
   marked-length [] flags = refl
   marked-length (id ∷ ids) flags =
       marked-length ids (set flags (place_of id os) true) ∙ length-set flags (place_of id os) true
 
   pub marked-append : (ids more : List (List ℕ)) (flags : List Bool)
-      → marked os flags (ids ++ more) ≡ marked os (marked os flags ids) more
+      → with_flags os flags (ids ++ more) ≡ with_flags os (with_flags os flags ids) more
   marked-append [] more flags = refl
   marked-append (id ∷ ids) more flags = marked-append ids more (set flags (place_of id os) true)
 
   pub kept_on : (ids : List (List ℕ)) (flags : List Bool) (p : ℕ) (d : Bool)
-      → get_or flags p d ≡ true → get_or (marked os flags ids) p d ≡ true
+      → get_or flags p d ≡ true → get_or (with_flags os flags ids) p d ≡ true
   kept_on [] flags p d h = h
   kept_on (id ∷ ids) flags p d h =
       kept_on ids (set flags (place_of id os) true) p d (set_on flags (place_of id os) p d h)
 
-  pub all_on : (ids : List (List ℕ)) (flags : List Bool) → All (IsOn os (marked os flags ids)) ids
+  pub all_on : (ids : List (List ℕ)) (flags : List Bool) → All (IsOn os (with_flags os flags ids)) ids
   all_on [] flags = All-nil (IsOn os flags)
   all_on (id ∷ ids) flags =
-      All-cons (IsOn os (marked os flags (id ∷ ids))) id ids
+      All-cons (IsOn os (with_flags os flags (id ∷ ids))) id ids
       (kept_on ids (set flags (place_of id os) true) (place_of id os) true (here_on flags (place_of id os)))
       (all_on ids (set flags (place_of id os) true))
 
   pub stays_on : (more : List (List ℕ)) (flags : List Bool) (ids : List (List ℕ))
-      → All (IsOn os flags) ids → All (IsOn os (marked os flags more)) ids
+      → All (IsOn os flags) ids → All (IsOn os (with_flags os flags more)) ids
   stays_on more flags ids h =
-      All-weaker (IsOn os flags) (IsOn os (marked os flags more))
+      All-weaker (IsOn os flags) (IsOn os (with_flags os flags more))
       (λ id on. kept_on more flags (place_of id os) true on) ids h
 
   later : (id : List ℕ) (ids : List (List ℕ)) (p : ℕ) → IsOne os ids p → IsOne os (id ∷ ids) p
@@ -122,7 +122,7 @@ module _ (os : List Object) where
   }
 
   new_on : (ids : List (List ℕ)) (flags : List Bool) (p : ℕ)
-      → get_or (marked os flags ids) p false ≡ true
+      → get_or (with_flags os flags ids) p false ≡ true
       → (get_or flags p false ≡ true) ⊎ IsOne os ids p
   new_on [] flags p h = inl h
   new_on (id ∷ ids) flags p h = elim (new_on ids (set flags (place_of id os) true) p h) [
@@ -162,14 +162,14 @@ module _ (os : List Object) where
     reaches = onward (referred_by os) led.from id next led.reaches among;
   }
 
-  pub led-first : (names : List (List ℕ)) → IsLed names (marked os (replicate (length os) false) names)
+  pub led-first : (names : List (List ℕ)) → IsLed names (with_flags os (replicate (length os) false) names)
   led-first names = record {
     size = marked-length names (replicate (length os) false) ∙ length-replicate (length os) false;
     begun = all_on names (replicate (length os) false);
     only = λ p h. elim (new_on names (replicate (length os) false) p h) [
       | inl old ↦ absurd (none_on (length os) p old)
       | inr one ↦
-          let lt : p < length os = let l = on_within (marked os (replicate (length os) false) names) p h in
+          let lt : p < length os = let l = on_within (with_flags os (replicate (length os) false) names) p h in
           let s = marked-length names (replicate (length os) false) in
           let z = length-replicate (length os) false in omega arith in
           record {
@@ -195,7 +195,7 @@ module _ (digest : List ℕ → List ℕ) (os : List Object) (good : AreObjects 
 
   -- What an object refers to changes no flag at the object or above it.
   pub same_above : (flags : List Bool) (p : ℕ) → n ≤ p
-      → get_or (marked os flags (referred_by os (object_at n os).id)) p false ≡ get_or flags p false
+      → get_or (with_flags os flags (referred_by os (object_at n os).id)) p false ≡ get_or flags p false
   same_above flags p from =
       same_test _ _
       (λ h. elim (new_on os (referred_by os (object_at n os).id) flags p h) [
@@ -205,14 +205,14 @@ module _ (digest : List ℕ → List ℕ) (os : List Object) (good : AreObjects 
       (λ h. kept_on os (referred_by os (object_at n os).id) flags p false h)
 
   pub led-more : (names : List (List ℕ)) (flags : List Bool) → get_or flags n false ≡ true
-      → IsLed os names flags → IsLed os names (marked os flags (referred_by os (object_at n os).id))
+      → IsLed os names flags → IsLed os names (with_flags os flags (referred_by os (object_at n os).id))
   led-more names flags on led = record {
     size = marked-length os (referred_by os (object_at n os).id) flags ∙ led.size;
     begun = stays_on os (referred_by os (object_at n os).id) flags names led.begun;
     only = λ p h. elim (new_on os (referred_by os (object_at n os).id) flags p h) [
       | inl old ↦ led.only p old
       | inr one ↦
-          let lt : p < length os = let l = on_within (marked os flags (referred_by os (object_at n os).id)) p h in
+          let lt : p < length os = let l = on_within (with_flags os flags (referred_by os (object_at n os).id)) p h in
           let s = marked-length os (referred_by os (object_at n os).id) flags in
           let z = led.size in omega arith in
           led-next os names (object_at n os).id (object_at p os).id (led.only n on)

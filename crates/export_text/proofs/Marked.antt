@@ -9,16 +9,16 @@ use Rattle.git_model.specs.References.{Reference, is_reference, reference, tree_
 use Rattle.git_model.specs.Modes.{kind_of_mode}
 use Rattle.git_objects.specs.declared.tree_entry.TreeEntry as entry
 use Rattle.git_objects.specs.Parts.{entry_of, entries_of}
-use Rattle.export_text.specs.Marking.{marked, names_in}
+use Rattle.export_text.specs.Marking.{with_flags, names_in}
 use Rattle.export_text.proofs.Pieces.{next-of}
 use Rattle.export_text.proofs.Leading.{marked-append}
 
 pub one-more : (os : List Object) (first old new : List Bool) (ids more : List (List ℕ)) (id : List ℕ)
-    → more ≡ ids ++ id ∷ [] → old ≡ marked os first ids → new ≡ marked os old (id ∷ [])
-    → new ≡ marked os first more
+    → more ≡ ids ++ id ∷ [] → old ≡ with_flags os first ids → new ≡ with_flags os old (id ∷ [])
+    → new ≡ with_flags os first more
 one-more os first old new ids more id grown before later =
-    later ∙ ap (λ fs. marked os fs (id ∷ [])) before ∙ sym (marked-append os ids (id ∷ []) first)
-    ∙ ap (marked os first) (sym grown)
+    later ∙ ap (λ fs. with_flags os fs (id ∷ [])) before ∙ sym (marked-append os ids (id ∷ []) first)
+    ∙ ap (with_flags os first) (sym grown)
 
 -- ---- what entries refer to
 

@@ -10,14 +10,14 @@ use Rattle.git_model.specs.References.{referred_by, place_of, object_at, no_obje
 use Rattle.git_model.specs.GoodRepository.{AreObjects}
 use Rattle.git_model.specs.Reach.{IsClosed, is_reachable, is_referred_to}
 use Rattle.commit_walk.proofs.Named.{there}
-use Rattle.export_text.specs.Marking.{marked, reached_flags}
+use Rattle.export_text.specs.Marking.{with_flags, reached_flags}
 use Rattle.export_text.proofs.Leading.{IsOn, IsLed, IsLedTo, all_on, any-led, led-any, led-first, led-more, nothing_referred, on_either, on_within, same_above, same_test, stays_on}
 
 -- The flags after the places below a bound, from the last one down.
 pub walked : List Object → ℕ → List Bool → List Bool
 walked os zero flags = flags
 walked os (suc n) flags =
-    walked os n (cond (get_or flags n false) (marked os flags (referred_by os (object_at n os).id)) flags)
+    walked os n (cond (get_or flags n false) (with_flags os flags (referred_by os (object_at n os).id)) flags)
 
 module _ (digest : List ℕ → List ℕ) (os : List Object) (good : AreObjects digest os)
     (starts : List (List ℕ)) where
@@ -40,11 +40,11 @@ module _ (digest : List ℕ → List ℕ) (os : List Object) (good : AreObjects 
     abbrev ids : List (List ℕ)
     ids = referred_by os (object_at n os).id
 
-    stepped : n < length os → get_or flags n false ≡ true → IsWalk n (marked os flags ids)
+    stepped : n < length os → get_or flags n false ≡ true → IsWalk n (with_flags os flags ids)
     stepped within on = record {
       led = led-more digest os good n within starts flags on w.led;
       done = λ p from h. elim (cases_eq n p) [
-        | inl same ↦ subst (λ (q : ℕ). All (IsOn os (marked os flags ids)) (referred_by os (object_at q os).id)) same
+        | inl same ↦ subst (λ (q : ℕ). All (IsOn os (with_flags os flags ids)) (referred_by os (object_at q os).id)) same
             (all_on os ids flags)
         | inr other ↦ stays_on os ids flags (referred_by os (object_at p os).id)
             (w.done p (omega arith) (sym (same_above digest os good n within flags p from) ∙ h))
@@ -52,7 +52,7 @@ module _ (digest : List ℕ → List ℕ) (os : List Object) (good : AreObjects 
     }
 
   turned : (n : ℕ) (flags : List Bool) → IsWalk (suc n) flags → (b : Bool) → get_or flags n false ≡ b
-      → IsWalk n (cond b (marked os flags (referred_by os (object_at n os).id)) flags)
+      → IsWalk n (cond b (with_flags os flags (referred_by os (object_at n os).id)) flags)
   turned n flags w true e =
       stepped n flags w (let lt = on_within flags n e in let s = w.led.size in omega arith) e
   turned n flags w false e = skipped n flags w e
@@ -63,8 +63,8 @@ module _ (digest : List ℕ → List ℕ) (os : List Object) (good : AreObjects 
   ended (suc n) flags w = ended n _ (turned n flags w (get_or flags n false) refl)
 
   begun : (flags : List Bool) → flags ≡ replicate (length os) false
-      → IsWalk (length os) (marked os flags starts)
-  begun flags blank = subst (λ (fs : List Bool). IsWalk (length os) (marked os fs starts)) (sym blank) (record {
+      → IsWalk (length os) (with_flags os flags starts)
+  begun flags blank = subst (λ (fs : List Bool). IsWalk (length os) (with_flags os fs starts)) (sym blank) (record {
     led = led-first os starts;
     done = λ p from on.
         let lt = on_within _ p on in let s = (led-first os starts).size in absurd (omega arith);
@@ -122,7 +122,7 @@ module _ (digest : List ℕ → List ℕ) (repository : Repository)
       ∙ sym (get_or-map (λ (o : Object). is_referred_to repository o.id) repository.objects p no_object false within))
 
   pub walk_reaches : (flags : List Bool) → flags ≡ replicate (length repository.objects) false
-      → walked repository.objects (length repository.objects) (marked repository.objects flags held)
+      → walked repository.objects (length repository.objects) (with_flags repository.objects flags held)
       ≡ reached_flags repository
   walk_reaches flags blank =
       all_told _ (ended digest repository.objects good held (length repository.objects) _
@@ -131,7 +131,7 @@ module _ (digest : List ℕ → List ℕ) (repository : Repository)
 -- ---- one place down
 
 pub walk_on : (os : List Object) (place n : ℕ) (old now : List Bool) → place ≡ suc n
-    → get_or old n false ≡ true → now ≡ marked os old (referred_by os (object_at n os).id)
+    → get_or old n false ≡ true → now ≡ with_flags os old (referred_by os (object_at n os).id)
     → walked os n now ≡ walked os place old
 unfolding walked
 walk_on os place n old now is on next = step ∙ ap (λ m. walked os m old) (sym is)

@@ -7,9 +7,9 @@ use Rattle.git_model.specs.References.{Reference, place_of}
 use Rattle.git_model.specs.Reach.{is_referred_to}
 
 -- The flags with those of the objects of these names set.
-abbrev pub marked : List Object → List Bool → List (List ℕ) → List Bool
-marked os flags [] = flags
-marked os flags (id ∷ ids) = marked os (set flags (place_of id os) true) ids
+abbrev pub with_flags : List Object → List Bool → List (List ℕ) → List Bool
+with_flags os flags [] = flags
+with_flags os flags (id ∷ ids) = with_flags os (set flags (place_of id os) true) ids
 
 -- The names that references have.
 abbrev pub names_in : List Reference → List (List ℕ)

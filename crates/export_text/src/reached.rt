@@ -5,7 +5,7 @@
 
 ghost use Rattle.std.specs.Prelude.{◌≡◌, length, map, replicate, false, IfOk, OnOk};
 ghost use Rattle.git_model.specs.{GoodRepository.{AreObjects}, RefStore.{listed_refs}};
-ghost use Rattle.export_text.specs.Marking.{marked, reached_flags};
+ghost use Rattle.export_text.specs.Marking.{with_flags, reached_flags};
 
 use crate::marking::{mark, mark_all};
 use crate::referring::referred_by;
@@ -17,7 +17,7 @@ use tenant_tables::Objects;
 // Marks what the refs hold.
 fn mark_targets<N: Naming>(objects: &Objects<'_, N>, refs: &Refs, flags: &mut [bool])
     requires size { length flags.old ≡ length objects.now }
-    ensures { flags.new ≡ marked objects.now flags.old (map (λ ref. ref.1) (listed_refs refs.now)) }
+    ensures { flags.new ≡ with_flags objects.now flags.old (map (λ ref. ref.1) (listed_refs refs.now)) }
 {
     for position in 0..refs.len() {
         let Some(entry) = refs.at(position) else {

@@ -17,7 +17,7 @@ use Rattle.open_commits.specs.declared.fault.Fault.TheVariants as commit_fault
 use Rattle.open_commits.specs.declared.open_commit.OpenCommit.{OpenCommit as LentCommit}
 use Rattle.open_commits.specs.Calls.{Changes}
 use Rattle.open_commits.specs.Parents.{changed_to, started_from}
-use Rattle.open_commits.specs.OpenCommit.{Header, HeldCommit, OpenCommit, Stands, begun, begun_on, commit_held, commit_in, shown_in}
+use Rattle.open_commits.specs.OpenCommit.{Header, HeldCommit, OpenCommit, Stands, begun, begun_on, commit_held, open_commit_in, shown_in}
 use Rattle.stream_parts.specs.declared.fault.Fault.{Fault}
 use Rattle.stream_parts.specs.declared.fault.Fault.TheVariants as fault
 use Rattle.stream_parts.specs.declared.headers.CommitHeader.{CommitHeader}
@@ -90,7 +90,7 @@ pub not_changing : (state : StreamState) (new : Workspace) (os : List Object) (c
 not_changing state new os committed refs later out e f same none =
     carries_refused
     (and_then (changes_in (workspace_over state os committed refs).stream.command) later) new out out f
-    (λ other. rw (no_changes_with (commit_in os) state.stream.command e none, same) refl)
+    (λ other. rw (no_changes_with (open_commit_in os) state.stream.command e none, same) refl)
 
 -- what a change leaves
 changed_open : (workspace : Workspace) (change : OpenCommit → Result OpenCommit Fault)
@@ -117,7 +117,7 @@ put_back state left os committed refs change commit next out result is left_is c
     (workspace_over s os committed refs) out out result) (sym left_is)
     (changed_open (workspace_over state os committed refs) change (shown_in os commit)
     (shown_in os next) out result
-    (ap (λ (c : OpenCommand HeldCommit). command_with (commit_in os) c) is) changed)
+    (ap (λ (c : OpenCommand HeldCommit). command_with (open_commit_in os) c) is) changed)
 
 -- a session that takes its commit out and looks a commit up, and puts its own back
 pub left_with : (state looked left : StreamState) (spent : OpenCommand HeldCommit) (next : HeldCommit)

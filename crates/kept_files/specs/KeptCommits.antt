@@ -25,6 +25,6 @@ pub record TakesOut (kept : KeptCommit) (old new : List KeptCommit) : Type 0 whe
   pub stay : new ≡ older ++ younger
 
 -- Some of the oldest went, and one commit came last. If memory ran out, it did not come.
-pub record Adds (kept : KeptCommit) (old new : List KeptCommit) : Type 0 where
+pub record AddsCommit (kept : KeptCommit) (old new : List KeptCommit) : Type 0 where
   pub gone : ℕ
   pub stay : (new ≡ drop gone old ++ kept ∷ []) ⊎ (new ≡ drop gone old)

@@ -5,7 +5,7 @@ ghost use Rattle.std.specs.Prelude.{min, slice_index_or, All, IfNone, IfSome, tr
 ghost use Rattle.git_model.specs.{Limits.{files_limit}, Repository.{Object}};
 ghost use Rattle.tree_build.specs.Branch.{IsBranch};
 ghost use Rattle.kept_files.specs.declared.kept_files.KeptCommit.{KeptCommit as KeptCommitShown};
-ghost use Rattle.kept_files.specs.KeptCommits.{Adds, AreBranches, TakesOut, commits_limit};
+ghost use Rattle.kept_files.specs.KeptCommits.{AddsCommit, AreBranches, TakesOut, commits_limit};
 ghost use Rattle.kept_files.specs.KeptCommits.{files_of};
 
 use file_maps::FILES_LIMIT;
@@ -136,7 +136,7 @@ impl KeptFiles {
     ///
     /// Cannot fail: if an allocation fails, the files of the new commit are dropped.
     pub fn keep(&mut self, commit: Name, files: Files)
-        ensures adds { Adds (record { commit = commit; files = files }) self.old self.new }
+        ensures adds { AddsCommit (record { commit = commit; files = files }) self.old self.new }
         ensures few { length self.new ≤ commits_limit }
         ensures bounded { 1 < length self.new → files_of self.new ≤ files_limit }
         ensures branches { (os : List Object) → AreBranches os self.old → IsBranch os files

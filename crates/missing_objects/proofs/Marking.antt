@@ -3,7 +3,7 @@ use Rattle.std.proofs.Common.{◌≡◌, ℕ, zero, suc, ◌<◌, ◌≤◌, Boo
 use Rattle.std.proofs.lemmas.List.{length-replicate}
 use Rattle.git_model.specs.Repository.{Object}
 use Rattle.git_model.specs.References.{place_of}
-use Rattle.export_text.specs.Marking.{marked}
+use Rattle.export_text.specs.Marking.{with_flags}
 use Rattle.export_text.proofs.Leading.{marked-append, marked-length}
 use Rattle.missing_objects.specs.Marks.{AreMarksOf, Marks, first_marks, no_marks, with_marks}
 use Rattle.missing_objects.specs.declared.marks.Mark.{Mark}

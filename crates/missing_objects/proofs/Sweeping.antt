@@ -12,7 +12,7 @@ use Rattle.git_model.specs.GoodRepository.{AreObjects}
 use Rattle.git_model.specs.Reach.{IsClosed}
 use Rattle.git_model.proofs.Earlier.{references_fall}
 use Rattle.commit_walk.proofs.Named.{there}
-use Rattle.export_text.specs.Marking.{marked}
+use Rattle.export_text.specs.Marking.{with_flags}
 use Rattle.export_text.proofs.Leading.{IsLed, IsLedTo, IsOn, all_on, any-led, kept_on, led-any, led-first, led-more, led-next, nothing_referred, on_either, on_within, same_above, same_test, stays_on}
 use Rattle.missing_objects.specs.Marks.{Marks, first_marks, is_open, marks_at, open_places, with_marks}
 use Rattle.missing_objects.specs.declared.marks.Mark.TheVariants as mark
@@ -121,34 +121,34 @@ module _ (digest : List ℕ → List ℕ) (os : List Object) (good : AreObjects 
         let c : opens m (length os) ≡ opens m (suc n) + found = w.count in omega arith
 
     having : get_or m.had n false ≡ true
-        → IsSweep os wants haves n (found + 0) (record { wanted = m.wanted; had = marked os m.had ids })
+        → IsSweep os wants haves n (found + 0) (record { wanted = m.wanted; had = with_flags os m.had ids })
     having on = record {
       wanted = w.wanted;
       had = led-more digest os good n within haves m.had on w.had;
       wanted_done = λ p from opened. elim (cases_eq n p) [
         | inl same ↦
-            let now : get_or (marked os m.had ids) p false ≡ true = kept_on os ids m.had p false (subst (λ (q : ℕ). get_or m.had q false ≡ true) same on) in
-            let off = not-had-of (record { wanted = m.wanted; had = marked os m.had ids }) p opened in cc
+            let now : get_or (with_flags os m.had ids) p false ≡ true = kept_on os ids m.had p false (subst (λ (q : ℕ). get_or m.had q false ≡ true) same on) in
+            let off = not-had-of (record { wanted = m.wanted; had = with_flags os m.had ids }) p opened in cc
         | inr other ↦ w.wanted_done p (omega arith)
             (ap (λ (b : Bool). get_or m.wanted p false && not b) (sym (same_above digest os good n within m.had p from)) ∙ opened)
       ];
       had_done = λ p from h. elim (cases_eq n p) [
-        | inl same ↦ subst (λ (q : ℕ). All (IsOn os (marked os m.had ids)) (referred_by os (object_at q os).id)) same
+        | inl same ↦ subst (λ (q : ℕ). All (IsOn os (with_flags os m.had ids)) (referred_by os (object_at q os).id)) same
             (all_on os ids m.had)
         | inr other ↦ stays_on os ids m.had (referred_by os (object_at p os).id)
             (w.had_done p (omega arith) (sym (same_above digest os good n within m.had p from) ∙ h))
       ];
-      count = counted (record { wanted = m.wanted; had = marked os m.had ids }) false (closed-of m n on)
+      count = counted (record { wanted = m.wanted; had = with_flags os m.had ids }) false (closed-of m n on)
           (λ p from. ap (λ (b : Bool). get_or m.wanted p false && not b) (same_above digest os good n within m.had p from));
     }
 
     wanting : get_or m.had n false ≡ false → get_or m.wanted n false ≡ true
-        → IsSweep os wants haves n (found + 1) (record { wanted = marked os m.wanted ids; had = m.had })
+        → IsSweep os wants haves n (found + 1) (record { wanted = with_flags os m.wanted ids; had = m.had })
     wanting off on = record {
       wanted = led-more digest os good n within wants m.wanted on w.wanted;
       had = w.had;
       wanted_done = λ p from opened. elim (cases_eq n p) [
-        | inl same ↦ subst (λ (q : ℕ). All (IsOn os (marked os m.wanted ids)) (referred_by os (object_at q os).id)) same
+        | inl same ↦ subst (λ (q : ℕ). All (IsOn os (with_flags os m.wanted ids)) (referred_by os (object_at q os).id)) same
             (all_on os ids m.wanted)
         | inr other ↦ stays_on os ids m.wanted (referred_by os (object_at p os).id)
             (w.wanted_done p (omega arith)
@@ -158,7 +158,7 @@ module _ (digest : List ℕ → List ℕ) (os : List Object) (good : AreObjects 
         | inl same ↦ let fails : get_or m.had p false ≡ false = subst (λ (q : ℕ). get_or m.had q false ≡ false) same off in cc
         | inr other ↦ w.had_done p (omega arith) h
       ];
-      count = counted (record { wanted = marked os m.wanted ids; had = m.had }) true (open-of m n on off)
+      count = counted (record { wanted = with_flags os m.wanted ids; had = m.had }) true (open-of m n on off)
           (λ p from. ap (λ (b : Bool). b && not (get_or m.had p false)) (same_above digest os good n within m.wanted p from));
     }
 
@@ -180,7 +180,7 @@ module _ (digest : List ℕ → List ℕ) (os : List Object) (good : AreObjects 
     }
 
     on-had : get_or m.had n false ≡ true
-        → marks_at os m n ≡ record { wanted = m.wanted; had = marked os m.had ids }
+        → marks_at os m n ≡ record { wanted = m.wanted; had = with_flags os m.had ids }
     on-had on =
         ap (λ (b : Bool). cond b (with_marks mark.Had os m ids)
         (cond (get_or m.wanted n false) (with_marks mark.Wanted os m ids) m)) on
@@ -200,9 +200,9 @@ module _ (digest : List ℕ → List ℕ) (os : List Object) (good : AreObjects 
 
     pub sweep-next : IsSweep os wants haves n (found + from_bool (is_open m n)) (marks_at os m n)
     sweep-next = elim (cases_Bool (get_or m.had n false)) [
-      | inl on ↦ to (record { wanted = m.wanted; had = marked os m.had ids }) false (on-had on) (closed-of m n on) (having on)
+      | inl on ↦ to (record { wanted = m.wanted; had = with_flags os m.had ids }) false (on-had on) (closed-of m n on) (having on)
       | inr off ↦ elim (cases_Bool (get_or m.wanted n false)) [
-        | inl on ↦ to (record { wanted = marked os m.wanted ids; had = m.had }) true
+        | inl on ↦ to (record { wanted = with_flags os m.wanted ids; had = m.had }) true
             (past-had off ∙ ap (λ (b : Bool). cond b (with_marks mark.Wanted os m ids) m) on)
             (open-of m n on off) (wanting off on)
         | inr none ↦ to m false

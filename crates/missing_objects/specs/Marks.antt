@@ -2,7 +2,7 @@
 use Rattle.std.specs.Prelude.{◌≡◌, ℕ, zero, suc, Bool, false, not, ◌&&◌, List, [], ◌∷◌, ◌++◌, cond, get_or, length, replicate}
 use Rattle.git_model.specs.Repository.{Object}
 use Rattle.git_model.specs.References.{object_at, referred_by}
-use Rattle.export_text.specs.Marking.{marked}
+use Rattle.export_text.specs.Marking.{with_flags}
 use Rattle.missing_objects.specs.declared.marks.Mark.{Mark}
 use Rattle.missing_objects.specs.declared.marks.Mark.TheVariants as mark
 
@@ -35,8 +35,8 @@ no_marks n = record { wanted = replicate n false; had = replicate n false }
 
 -- The marks with one more on each object of these names.
 abbrev pub with_marks : Mark → List Object → Marks → List (List ℕ) → Marks
-with_marks mark.Wanted os m ids = record { wanted = marked os m.wanted ids; had = m.had }
-with_marks mark.Had os m ids = record { wanted = m.wanted; had = marked os m.had ids }
+with_marks mark.Wanted os m ids = record { wanted = with_flags os m.wanted ids; had = m.had }
+with_marks mark.Had os m ids = record { wanted = m.wanted; had = with_flags os m.had ids }
 
 -- The marks that a sweep begins with.
 abbrev pub first_marks : List Object → List (List ℕ) → List (List ℕ) → Marks

@@ -21,7 +21,7 @@ use Rattle.git_model.specs.Results.{and_then}
 use Rattle.open_commits.specs.OpenCommit.{OpenCommit}
 use Rattle.open_commits.specs.Storing.{stored, trees_stored}
 use Rattle.open_commits.specs.Changes.{Left, entry_of, file_put, left_with, blob_put, contents_put}
-use Rattle.open_commits.specs.Showing.{Shown, file_or_trees, found_shown, entry_shown}
+use Rattle.open_commits.specs.Showing.{Shown, file_or_trees, found_shown, commit_entry_shown}
 use Rattle.open_commits.specs.Ends.{Closed, closed, commit_content}
 use Rattle.open_commits.specs.GoodCommits.{IsGoodCommit}
 use Rattle.open_commits.proofs.GoodCommits.{ok_is, went, stored-ok, trees-ok}
@@ -92,7 +92,7 @@ module _ (digest : List ℕ → List ℕ) (names : AnswersNames digest) (os : Li
       by mode.Gitlink more e = same more e
 
   pub entry_fits : (path : Path) (shown : Shown)
-      → entry_shown digest os commit.files path ≡ Ok shown → TreesFit [] shown.objects
+      → commit_entry_shown digest os commit.files path ≡ Ok shown → TreesFit [] shown.objects
   entry_fits path shown is = entry-from path (entry_at digest commit.files path) shown is
 
   -- ---- the end

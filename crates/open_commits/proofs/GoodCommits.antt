@@ -55,7 +55,7 @@ use Rattle.open_commits.specs.OpenCommit.{Header, OpenCommit, begun}
 use Rattle.open_commits.specs.Storing.{stored, stored_or, trees_stored, trees_or}
 use Rattle.open_commits.specs.Parents.{changed_to, started_from, merged}
 use Rattle.open_commits.specs.Changes.{Marks, Left, marked_as, marked_object, held_as, link_of, tree_of, blob_of, entry_of, file_put, tree_put, modified, left_with, blob_put, contents_put, deleted, copied_to, renamed_to, all_deleted}
-use Rattle.open_commits.specs.Showing.{Shown, file_or_trees, found_shown, entry_shown}
+use Rattle.open_commits.specs.Showing.{Shown, file_or_trees, found_shown, commit_entry_shown}
 use Rattle.open_commits.specs.Ends.{Closed, closed, commit_of, commit_content}
 use Rattle.open_commits.specs.GoodCommits.{AreMarks, IsGoodHeader, IsGoodCommit, GrowGood, HoldsCommit}
 use Rattle.open_commits.proofs.MarkedObjects.{from_ok, marked_has}
@@ -427,7 +427,7 @@ module _ (digest : List ℕ → List ℕ) (names : AnswersNames digest) (os : Li
       by mode.Gitlink more e = same more e
 
   pub entry_keeps : (path : Path) (shown : Shown)
-      → entry_shown digest os commit.files path ≡ Ok shown → GrowGood digest os shown.objects
+      → commit_entry_shown digest os commit.files path ≡ Ok shown → GrowGood digest os shown.objects
   entry_keeps path shown is =
       entry-from path (entry_at digest commit.files path) shown is
 

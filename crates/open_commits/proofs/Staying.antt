@@ -13,7 +13,7 @@ use Rattle.tree_build.specs.Branch.{Branch, files_in, root_name, closed_by, clos
 use Rattle.tree_build.proofs.Growing.{branch_stays}
 use Rattle.open_commits.specs.declared.fault.Fault.{Fault}
 use Rattle.git_model.specs.Results.{and_then}
-use Rattle.open_commits.specs.OpenCommit.{OpenCommit, HeldCommit, Stands, commit_in}
+use Rattle.open_commits.specs.OpenCommit.{OpenCommit, HeldCommit, Stands, open_commit_in}
 use Rattle.open_commits.specs.Storing.{stored}
 use Rattle.open_commits.specs.Calls.{Gives}
 use Rattle.open_commits.specs.Ends.{KeepsFiles}
@@ -23,12 +23,12 @@ use Rattle.open_commits.proofs.GoodCommits.{stored-ok}
 -- it stands where it stood, and means what it meant
 pub stored-keeps : (digest : List ℕ → List ℕ) (content : Content) (os more : List Object)
     (held : HeldCommit) → stored digest content os ≡ Ok more → Stands os held
-    → Stands more held × (commit_in more held ≡ commit_in os held)
+    → Stands more held × (open_commit_in more held ≡ open_commit_in os held)
 stored-keeps digest content os more held is stands =
     let stay = branch_stays (name_by digest content) content os held.files stands in
-    subst (λ (l : List Object). Stands l held × (commit_in l held ≡ commit_in os held))
+    subst (λ (l : List Object). Stands l held × (open_commit_in l held ≡ open_commit_in os held))
     (stored-ok digest content os more is).is
-    (stay.0, ap (λ (m : FileMap). record (commit_in os held) { files = m }) stay.1)
+    (stay.0, ap (λ (m : FileMap). record (open_commit_in os held) { files = m }) stay.1)
 
 pub blob-done : (digest : List ℕ → List ℕ) (os more : List Object) (mode : FileMode) (path : Path)
     (content : Content) (commit next last : OpenCommit)

@@ -1,4 +1,5 @@
 -- Changes to the files of a commit: git-fast-import(1), "filemodify" to "filedeleteall".
+pub use Rattle.stream_marks.specs.View.{Marks}
 use Rattle.std.specs.Prelude.{ℕ, nat_eq, if◌then◌else◌, List, [], ◌∷◌, Result, Ok, Err}
 use Rattle.std.specs.FinMap as finmap
 use Rattle.std.specs.Map.{lookup}
@@ -26,10 +27,6 @@ use Rattle.open_commits.specs.Storing.{stored}
 use Rattle.open_commits.specs.Parents.{changed_to}
 
 -- ---- what a change names
-
--- Marks: the number of each, and the object that it stands for.
-abbrev pub Marks : Type 0
-Marks = List (ℕ × MarkedObject)
 
 -- The object that a mark stands for.
 abbrev pub marked_object : Marks → ℕ → Result MarkedObject Fault

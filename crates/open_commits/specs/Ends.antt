@@ -9,7 +9,7 @@ use Rattle.file_maps.specs.Trees.{tree_id}
 use Rattle.tree_build.specs.Branch.{root_name}
 use Rattle.open_commits.specs.declared.fault.Fault.{Fault}
 use Rattle.git_model.specs.Results.{and_then}
-use Rattle.open_commits.specs.OpenCommit.{OpenCommit, HeldCommit, commit_in}
+use Rattle.open_commits.specs.OpenCommit.{OpenCommit, HeldCommit, open_commit_in}
 use Rattle.open_commits.specs.Storing.{stored, trees_stored}
 
 -- The commit that an open commit makes of this tree. Without an author, the committer is the
@@ -45,6 +45,6 @@ closed digest os commit = let content = commit_content digest commit in
 -- can start from this one and keep the directories that were opened. No tree is read for that.
 pub record KeepsFiles (digest : List ℕ → List ℕ) (os more : List Object) (old new : HeldCommit)
     : Type 0 where
-  pub files : (commit_in more new).files ≡ (commit_in os old).files
-  pub known : root_name new.files ≡ Some (tree_id digest (listed (commit_in os old).files))
+  pub files : (open_commit_in more new).files ≡ (open_commit_in os old).files
+  pub known : root_name new.files ≡ Some (tree_id digest (listed (open_commit_in os old).files))
   pub reads : new.files.reads ≡ old.files.reads

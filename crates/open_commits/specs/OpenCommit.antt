@@ -43,8 +43,8 @@ pub record HeldCommit : Type 0 where
   pub files : Branch
 
 -- What a held commit means among the objects of a table.
-abbrev pub commit_in : List Object → HeldCommit → OpenCommit
-commit_in os held = record {
+abbrev pub open_commit_in : List Object → HeldCommit → OpenCommit
+open_commit_in os held = record {
   header = held.header;
   message = held.message;
   parents = held.parents;
@@ -76,7 +76,7 @@ commit_held commit = record {
 
 -- What a borrowed commit means among objects, and that its files are a branch among them.
 abbrev pub shown_in : List Object → LentCommit → OpenCommit
-shown_in os commit = commit_in os (commit_held commit)
+shown_in os commit = open_commit_in os (commit_held commit)
 
 abbrev pub IsCommitHeld : List Object → LentCommit → Type 0
 IsCommitHeld os commit = Stands os (commit_held commit)

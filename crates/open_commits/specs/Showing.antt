@@ -30,8 +30,8 @@ found_shown digest os files path (Some e) =
     and_then (file_or_trees digest os files path e.mode) (λ more.
     Ok (record { entry = Some e; objects = more }))
 
-abbrev pub entry_shown : (List ℕ → List ℕ) → List Object → FileMap → Path → Result Shown Fault
-entry_shown digest os files path =
+abbrev pub commit_entry_shown : (List ℕ → List ℕ) → List Object → FileMap → Path → Result Shown Fault
+commit_entry_shown digest os files path =
     found_shown digest os files path (entry_at digest files path)
 
 -- The trees that are stored for what is at a path: those of a directory, and none for a file or for

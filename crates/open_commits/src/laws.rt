@@ -8,7 +8,7 @@ ghost use Rattle.stream_grammar.specs.declared.data_ref.DataRef.{DataRef};
 ghost use Rattle.tenant_tables.specs.Sums.{TreesFit};
 ghost use Rattle.file_maps.specs.FileMap.{Path, AreFiles, listed};
 ghost use Rattle.open_commits.specs.{OpenCommit.{Header, OpenCommit, begun}, Ends.{Closed, closed}};
-ghost use Rattle.open_commits.specs.{Parents.{started_from, merged}, Showing.{Shown, entry_shown}};
+ghost use Rattle.open_commits.specs.{Parents.{started_from, merged}, Showing.{Shown, commit_entry_shown}};
 ghost use Rattle.open_commits.specs.Changes.{Marks, Left, modified, contents_put, deleted};
 ghost use Rattle.open_commits.specs.Changes.{copied_to, renamed_to, all_deleted};
 ghost use Rattle.open_commits.specs.GoodCommits.{AreMarks, IsGoodHeader, IsGoodCommit, GrowGood};
@@ -81,7 +81,7 @@ pub fn shown_trees_keep_objects_good()
     ensures { (digest : List ℕ → List ℕ) → AnswersNames digest
         → (os : List Object) → AreObjects digest os
         → (commit : OpenCommit) → IsGoodCommit os commit → AreFiles (listed commit.files)
-        → (path : Path) (shown : Shown) → entry_shown digest os commit.files path ≡ Ok shown
+        → (path : Path) (shown : Shown) → commit_entry_shown digest os commit.files path ≡ Ok shown
         → GrowGood digest os shown.objects }
 {}
 
@@ -107,7 +107,7 @@ pub fn shown_trees_keep_trees_fitting()
     ensures { (digest : List ℕ → List ℕ) → AnswersNames digest
         → (os : List Object) → AreObjects digest os → TreesFit [] os
         → (commit : OpenCommit) → IsGoodCommit os commit → AreFiles (listed commit.files)
-        → (path : Path) (shown : Shown) → entry_shown digest os commit.files path ≡ Ok shown
+        → (path : Path) (shown : Shown) → commit_entry_shown digest os commit.files path ≡ Ok shown
         → TreesFit [] shown.objects }
 {}
 

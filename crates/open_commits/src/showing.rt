@@ -5,7 +5,7 @@ ghost use Rattle.tenant_tables.specs.{Lent.{Keeps}, Objects.{objects}, Room.{Has
 ghost use Rattle.tenant_tables.specs.IsBackedBy.{IsBackedBy};
 ghost use Rattle.file_maps.specs.{Edits.{files_at}, Trees.{nested_trees}};
 ghost use Rattle.open_commits.specs.{OpenCommit.{shown_in, IsCommitHeld}, Showing.{trees_by_mode}};
-ghost use Rattle.open_commits.specs.Showing.{entry_shown, file_or_trees, shown_trees};
+ghost use Rattle.open_commits.specs.Showing.{commit_entry_shown, file_or_trees, shown_trees};
 ghost use Rattle.open_commits.specs.{Storing.{LeavesTrees}, Calls.{AddsOnly, Gives}};
 
 use crate::fault::Fault;
@@ -44,7 +44,7 @@ impl OpenCommit {
             LeavesTrees N.digest_of
             (shown_trees N.digest_of (shown_in os self.old).files path.now) os
             (objects pool.new table.new.entries) }
-        ensures done { Gives (entry_shown N.digest_of (objects pool.old table.old.entries)
+        ensures done { Gives (commit_entry_shown N.digest_of (objects pool.old table.old.entries)
             (shown_in (objects pool.old table.old.entries) self.old).files path.now)
             (λ entry. record { entry = entry; objects = objects pool.new table.new.entries })
             result }

@@ -25,7 +25,7 @@ use Rattle.pool_file_checks.proofs.OwnObjects.{own_length}
 use Rattle.pool_file_checks.proofs.Passing.{passes_front, passes_rest}
 use Rattle.pool_file.specs.declared.tenant.Tenant.{Tenant}
 use Rattle.pool_file.specs.Loading.{named_in, loaded_repositories, all_held}
-use Rattle.pool_file.specs.Building.{objects_at, IsChecked, IsBuilt, AreUnder, Builds, Adds, SharesFront}
+use Rattle.pool_file.specs.Building.{objects_at, IsChecked, IsBuilt, AreUnder, Builds, AddsTenants, SharesFront}
 use Rattle.pool_file.specs.declared.relatives.Shared.{Shared}
 use Rattle.pool_file.specs.Tables.{BeginAlike}
 use Rattle.pool_file.proofs.Slots.{objects_at-kept}
@@ -130,7 +130,7 @@ unfolding loaded_repositories
 said-push pool ts t = map-append (named_in pool) ts (t ∷ [])
 
 pub adds_none : (digest : List ℕ → List ℕ) (slots : List ℕ) (p : Cells) (ts : List Tenant)
-    → AreUnder digest slots p ts → Adds digest slots p ts [] p ts
+    → AreUnder digest slots p ts → AddsTenants digest slots p ts [] p ts
 adds_none digest slots p ts under =
     record { under = under; objects = refl; says = sym (append-nil (loaded_repositories p ts)) }
 
@@ -152,7 +152,7 @@ module _ (digest : List ℕ → List ℕ) (slots : List ℕ) (p q : Cells) (ts :
       said-push q ts t
       ∙ (λ i. said-kept p q ts tenants_kept i ++ (built.says i) ∷ [])
 
-  pub adds_one : Adds digest slots p ts (r ∷ []) q (ts ++ t ∷ [])
+  pub adds_one : AddsTenants digest slots p ts (r ∷ []) q (ts ++ t ∷ [])
   adds_one = record {
     under = record {
       once = under.once;
@@ -171,8 +171,8 @@ module _ (digest : List ℕ → List ℕ) (slots : List ℕ) (p q : Cells) (ts :
 -- ---- one after another
 
 pub adds_on : (digest : List ℕ → List ℕ) (slots : List ℕ) (p q z : Cells) (old mid new : List Tenant)
-    (rs : List RawTenant) (r : RawTenant) → Adds digest slots p old rs q mid
-    → Adds digest slots q mid (r ∷ []) z new → Adds digest slots p old (rs ++ r ∷ []) z new
+    (rs : List RawTenant) (r : RawTenant) → AddsTenants digest slots p old rs q mid
+    → AddsTenants digest slots q mid (r ∷ []) z new → AddsTenants digest slots p old (rs ++ r ∷ []) z new
 adds_on digest slots p q z old mid new rs r before one = record {
   under = one.under;
   objects = one.objects ∙ before.objects;

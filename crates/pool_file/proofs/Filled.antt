@@ -19,7 +19,7 @@ use Rattle.pool_file_checks.proofs.OwnRefs.{refs_good}
 use Rattle.pool_file_checks.proofs.Savable.{names_rise}
 use Rattle.pool_file.specs.declared.tenant.Tenant.{Tenant}
 use Rattle.pool_file.specs.Loading.{named_in, loaded_repositories, all_held, IsTenant, AreTenants}
-use Rattle.pool_file.specs.Building.{objects_at, times_in, IsChecked, IsBuilt, AreUnder, Adds}
+use Rattle.pool_file.specs.Building.{objects_at, times_in, IsChecked, IsBuilt, AreUnder, AddsTenants}
 use Rattle.pool_file.proofs.Slots.{once_in}
 use Rattle.pool_file.proofs.Built.{said-kept, each-kept, each_checked}
 
@@ -48,12 +48,12 @@ released_again own slots q z same counts contents =
 
 pub adds_again : {X : Type 0} (shown : X → RawTenant) (digest : List ℕ → List ℕ)
     (own slots : List ℕ) (p q : Cells) (old new : List Tenant) (xs all : List X) → own ≡ slots
-    → old ≡ [] → xs ≡ all → Adds digest own p old (map shown xs) q new
-    → Adds digest slots p [] (map shown all) q new
+    → old ≡ [] → xs ≡ all → AddsTenants digest own p old (map shown xs) q new
+    → AddsTenants digest slots p [] (map shown all) q new
 adds_again {X} shown digest own slots p q old new xs all same none is a =
-    subst (λ (l : List ℕ). Adds digest l p [] (map shown all) q new) same
-    (subst (λ (l : List Tenant). Adds digest own p l (map shown all) q new) none
-    (subst (λ (l : List X). Adds digest own p old (map shown l) q new) is a))
+    subst (λ (l : List ℕ). AddsTenants digest l p [] (map shown all) q new) same
+    (subst (λ (l : List Tenant). AddsTenants digest own p l (map shown all) q new) none
+    (subst (λ (l : List X). AddsTenants digest own p old (map shown l) q new) is a))
 
 names_said : (pool : Cells) (ts : List Tenant)
     → map (λ n. n.tenant) (loaded_repositories pool ts) ≡ map (λ t. t.name) ts
@@ -97,7 +97,7 @@ module _ (digest : List ℕ → List ℕ) (f : RawFile) (names : AnswersNames di
 
   module _ (slots : List ℕ) (stored q z : Cells) (new : List Tenant)
       (objects : objects_at stored slots ≡ f.objects)
-      (adds : Adds digest slots stored [] f.tenants q new) (released : IsReleased slots q z) where
+      (adds : AddsTenants digest slots stored [] f.tenants q new) (released : IsReleased slots q z) where
     counted : (s : ℕ) → holds z s ≡ all_held new s
     counted s = let a = adds.under.counts s in let b = released.counts s in omega arith
 

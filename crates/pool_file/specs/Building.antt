@@ -82,7 +82,7 @@ pub record Builds (digest : List ℕ → List ℕ) (os : List RawObject) (r : Ra
   pub others : PreservesOthers before [] after t.table.entries
 
 -- More tenants were built, and they are what the file says of them.
-pub record Adds (digest : List ℕ → List ℕ) (slots : List ℕ) (before : Cells) (old : List Tenant)
+pub record AddsTenants (digest : List ℕ → List ℕ) (slots : List ℕ) (before : Cells) (old : List Tenant)
     (rs : List RawTenant) (after : Cells) (new : List Tenant) : Type 0 where
   pub under : AreUnder digest slots after new
   pub objects : objects_at after slots ≡ objects_at before slots

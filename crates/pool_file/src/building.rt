@@ -8,7 +8,7 @@ ghost use Rattle.pool_file_format.specs.Shown.{objects_of, tenant_of, tenants_of
 ghost use Rattle.pool_file_checks.specs.{Checks.{Passes}, Own.{names_of}, Quick.{KnowsSums}};
 ghost use Rattle.pool_file_checks.specs.{Whole.{file_checks}, Saved.{saved_in}};
 ghost use Rattle.pool_file.specs.{Loading.{loaded_repositories, AreTenants}, Tables.{BeginAlike}};
-ghost use Rattle.pool_file.specs.Building.{objects_at, IsChecked, AreUnder, Builds, Adds};
+ghost use Rattle.pool_file.specs.Building.{objects_at, IsChecked, AreUnder, Builds, AddsTenants};
 ghost use Rattle.pool_file.specs.Building.{SharesFront};
 
 use crate::contents::{release_contents, store_contents};
@@ -185,7 +185,7 @@ fn add_tenant<N: Naming>(
     requires known { KnowsSums N.digest_of (objects_at pool.old slots.now) known.now }
     requires checked { IsChecked N.digest_of (objects_at pool.old slots.now)
         (tenant_of tenant.now) }
-    ensures { OnOk result (Adds N.digest_of slots.now pool.old tenants.old.items
+    ensures { OnOk result (AddsTenants N.digest_of slots.now pool.old tenants.old.items
         (tenant_of tenant.now ∷ []) pool.new tenants.new.items) }
 {
     let shared = relatives.choose(slots, tenants, &tenant.numbers);
@@ -209,7 +209,7 @@ fn add_tenants<N: Naming>(
     requires known { KnowsSums N.digest_of (objects_at pool.old slots.now) known.now }
     requires checked { All (IsChecked N.digest_of (objects_at pool.old slots.now))
         (tenants_of all.now) }
-    ensures { OnOk result (Adds N.digest_of slots.now pool.old tenants.old.items
+    ensures { OnOk result (AddsTenants N.digest_of slots.now pool.old tenants.old.items
         (tenants_of all.now) pool.new tenants.new.items) }
 {
     let mut relatives = Relatives::new(alloc);

@@ -15,7 +15,7 @@ use Rattle.pool_file_format.specs.declared.fault.Fault.TheVariants as fault
 use Rattle.pool_file_format.specs.Format.{RawObject}
 use Rattle.pool_file_format.specs.Shown.{object_of, objects_of}
 use Rattle.pool_file_checks.specs.Own.{kind_of, content_of, content_at, names_of, Rows, row, rows_of, AreDistinct}
-use Rattle.pool_file_checks.specs.Indexing.{Adds, Indexes, IsIndexed}
+use Rattle.pool_file_checks.specs.Indexing.{AddsRow, Indexes, IsIndexed}
 
 -- ---- contents by number
 
@@ -87,7 +87,7 @@ none_indexed names numbers rows none = subst (λ (rs : Rows). IsIndexed names nu
 
 pub built_on : (names : List (List ℕ)) (numbers : List ℕ) (i j : ℕ) (old new : Rows) → j ≡ suc i → i < length numbers
     → Built names numbers i old
-    → Adds old (slice_index_or names (get_or numbers i 0) []) (get_or numbers i 0) (Ok tt) new
+    → AddsRow old (slice_index_or names (get_or numbers i 0) []) (get_or numbers i 0) (Ok tt) new
     → Built names numbers j new
 built_on names numbers i j old new next lt b a = subst (λ (k : ℕ). Built names numbers k new) (sym next) (
   a.0 ∙ ap (λ (rs : Rows). rs ++ row names (get_or numbers i 0) ∷ []) b.0
@@ -105,7 +105,7 @@ all_rows names numbers i lt =
 
 pub built_fails : (names : List (List ℕ)) (numbers : List ℕ) (i : ℕ) (old new : Rows) (e : Fault) → i < length numbers
     → Built names numbers i old
-    → Adds old (slice_index_or names (get_or numbers i 0) []) (get_or numbers i 0) (Err e) new
+    → AddsRow old (slice_index_or names (get_or numbers i 0) []) (get_or numbers i 0) (Err e) new
     → Indexes (rows_of names numbers) (Err e)
 built_fails names numbers i old new (fault.Refused r) lt b a = (
   λ d. twice old (slice_index_or names (get_or numbers i 0) []) (get_or numbers i 0) (rows_of names (drop (suc i) numbers)) a.0

@@ -8,12 +8,12 @@ use Rattle.pool_file_format.specs.declared.fault.Fault.TheVariants as fault
 use Rattle.pool_file_checks.specs.Own.{Rows, rows_of, AreDistinct}
 
 -- A row was added at the end, under a new name. Or it was refused: the name was there.
-abbrev pub Adds : Rows → List ℕ → ℕ → Result Unit Fault → Rows → Type 0
-Adds old id n (Ok u) new = (new ≡ old ++ (id, n) ∷ []) × AreDistinct new
-Adds old id n (Err (fault.Refused r)) new = IsSome (lookup (bytes_eq id) old)
+abbrev pub AddsRow : Rows → List ℕ → ℕ → Result Unit Fault → Rows → Type 0
+AddsRow old id n (Ok u) new = (new ≡ old ++ (id, n) ∷ []) × AreDistinct new
+AddsRow old id n (Err (fault.Refused r)) new = IsSome (lookup (bytes_eq id) old)
     × (r ≡ refusal.NotCanonical)
-Adds old id n (Err fault.Memory) new = Unit {0}
-Adds old id n (Err fault.Device) new = ⊥
+AddsRow old id n (Err fault.Memory) new = Unit {0}
+AddsRow old id n (Err fault.Device) new = ⊥
 
 -- The index has the rows of the first numbers, under distinct names.
 abbrev pub IsIndexed : List (List ℕ) → List ℕ → Rows → Type 0

@@ -1,7 +1,7 @@
 //! The objects of one tenant, under their names.
 
 ghost use Rattle.std.specs.{Prelude.{◌≡◌, ◌<◌, [], length, All, slice_index_or}, Bool.{OnTrue}};
-ghost use Rattle.pool_file_checks.specs.{Own.{rows_of}, Indexing.{Adds, Indexes, IsIndexed}};
+ghost use Rattle.pool_file_checks.specs.{Own.{rows_of}, Indexing.{AddsRow, Indexes, IsIndexed}};
 ghost use Rattle.pool_file_format.specs.Taking.{shown};
 
 use git_names::Name;
@@ -11,7 +11,7 @@ use std::alloc::Global;
 
 // Adds the number of an object under its name, unless another object has it.
 fn add_number(index: &mut IndexMap<Name, usize>, id: Name, number: usize) -> Result<(), Fault>
-    ensures { Adds index.old.entries id number result index.new.entries }
+    ensures { AddsRow index.old.entries id number result index.new.entries }
 {
     if index.insert(id, number)?.is_some() {
         return Err(Fault::Refused(Refusal::NotCanonical));
@@ -22,7 +22,7 @@ fn add_number(index: &mut IndexMap<Name, usize>, id: Name, number: usize) -> Res
 // Adds the object with this number under its name.
 fn add_object(index: &mut IndexMap<Name, usize>, names: &[Name], number: u64) -> Result<(), Fault>
     ensures { number < length names.now
-        → Adds index.old.entries (slice_index_or names.now number [])
+        → AddsRow index.old.entries (slice_index_or names.now number [])
         number result index.new.entries }
 {
     let number = number as usize;

@@ -44,7 +44,7 @@ use Rattle.stream_grammar.specs.Texts.{argument, dataref_of, mark_of, read}
 use Rattle.stream_grammar.proofs.Filled.{by_test}
 use Rattle.open_commits.specs.OpenCommit.{OpenCommit, begun as begun_commit}
 use Rattle.open_commits.specs.Changes.{all_deleted, contents_put, copied_to, deleted, modified as commit_modified, renamed_to}
-use Rattle.open_commits.specs.Showing.{entry_shown as commit_entry_shown}
+use Rattle.open_commits.specs.Showing.{commit_entry_shown}
 use Rattle.stream_parts.specs.declared.branches.Tip.TheVariants.{Unborn}
 use Rattle.stream_parts.specs.declared.fault.Fault.{Fault}
 use Rattle.stream_parts.specs.declared.headers.CommitHeader.{CommitHeader}

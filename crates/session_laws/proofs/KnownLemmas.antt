@@ -35,7 +35,7 @@ use Rattle.open_commits.specs.declared.fault.Fault.TheVariants as commit_fault
 use Rattle.open_commits.specs.OpenCommit.{OpenCommit, begun}
 use Rattle.open_commits.specs.Changes.{all_deleted, contents_put, copied_to, deleted, modified, renamed_to}
 use Rattle.open_commits.specs.Parents.{merged, started_from}
-use Rattle.open_commits.specs.Showing.{entry_shown as commit_entry_shown}
+use Rattle.open_commits.specs.Showing.{commit_entry_shown}
 use Rattle.stream_parts.specs.declared.branches.Tip.{Tip}
 use Rattle.stream_parts.specs.declared.branches.Tip.TheVariants.{Unborn}
 use Rattle.stream_parts.specs.declared.fault.Fault.{Fault}

@@ -72,17 +72,17 @@ use Rattle.open_commits.specs.declared.fault.Fault.{Fault as CommitFault}
 use Rattle.open_commits.specs.Changes.{all_deleted, contents_put, copied_to, deleted, renamed_to}
 use Rattle.open_commits.specs.GoodCommits.{GrowGood}
 use Rattle.open_commits.specs.OpenCommit.{Header, OpenCommit as Opened, begun}
-use Rattle.open_commits.specs.Showing.{Shown, entry_shown}
+use Rattle.open_commits.specs.Showing.{Shown, commit_entry_shown}
 use Rattle.open_commits.proofs.FitCommits.{entry_fits}
 use Rattle.open_commits.proofs.GoodCommits.{entry_keeps}
 use Rattle.import_session.specs.Changes.{file_stored, files_changed}
-use Rattle.stream_commands.specs.Replies.{branch_entry_shown, entry_line, replied}
+use Rattle.stream_commands.specs.Replies.{branch_entry_shown, commit_entry_line, replied}
 use Rattle.import_session.specs.Commits.{begun_from, closed_where, commit_merged, commit_opened, commit_said, commit_started, header_of, header_said}
 use Rattle.import_session.specs.Opening.{opened_with}
 use Rattle.stream_commands.specs.Printing.{prints}
 use Rattle.session_laws.proofs.SoundChanges.{IsReady, LeavesOpen, begun_open, cleared_open, commit_merged_open, commit_started_open, command_grown, contents_open, copied_open, deleted_open, modified_open, renamed_open}
 use Rattle.import_session.specs.Sound.{IsCommitHeader, IsStreamBranch, IsOpen, IsPending, IsSound, IsSoundCommand, IsSoundRepository, IsTagHeader, IsTip}
-use Rattle.stream_parts.specs.Showing.{entry_shown as stored_entry_shown}
+use Rattle.stream_parts.specs.Showing.{entry_shown}
 use Rattle.import_session.specs.Stream.{Running, Step, commands_end, last_checkpoint, session_end, step, taken, unless_done_missing}
 use Rattle.import_session.proofs.SoundCommits.{IsCommitOf, by_test, commit_good, start_good, then_any, then_good, tip_commit_is}
 use Rattle.import_session.proofs.SoundEnds.{branch_keeps, branches_longer, from_ok, grown_by, marks_longer, marks_with, refs_grown, tags_grown, where_keeps}
@@ -626,7 +626,7 @@ entry_sound : (digest : List ℕ → List ℕ) → AnswersNames digest → (work
     → IfOk (and_then (changes_in command) (λ commit.
     branch_entry_shown digest path commit workspace)) (LeavesSound digest)
 entry_sound digest names workspace sound path (open_command.Changes commit) is =
-    by_shown (entry_shown digest workspace.objects commit.files path)
+    by_shown (commit_entry_shown digest workspace.objects commit.files path)
     (λ shown e. entry_keeps digest names workspace.objects sound.objects commit is.good is.files path
     shown e)
     (λ shown e. entry_fits digest names workspace.objects sound.objects sound.trees commit is.good
@@ -636,7 +636,7 @@ entry_sound digest names workspace sound path (open_command.Changes commit) is =
         → ((shown : Shown) → r ≡ Ok shown → GrowGood digest workspace.objects shown.objects)
         → ((shown : Shown) → r ≡ Ok shown → TreesFit [] shown.objects)
         → IfOk (and_then (changed_or r) (λ shown.
-        prints (record workspace { objects = shown.objects }) (entry_line path shown.entry)))
+        prints (record workspace { objects = shown.objects }) (commit_entry_line path shown.entry)))
         (LeavesSound digest)
     by_shown (Err e) good fit = tt
     by_shown (Ok shown) good fit =
@@ -776,7 +776,7 @@ reply_keeps digest names workspace sound (CatBlob object) =
     then_any (LeavesSound digest) (shown_object id (object_named id workspace.objects))
     (λ line. prints workspace line) (λ line. sound))
 reply_keeps digest names workspace sound (Ls root path) =
-    then_any (LeavesSound digest) (stored_entry_shown workspace.objects workspace.stream.marks root path)
+    then_any (LeavesSound digest) (entry_shown workspace.objects workspace.stream.marks root path)
     (λ line. prints workspace line) (λ line. sound)
 reply_keeps digest names workspace sound (LsInCommit path) =
     entry_sound digest names workspace sound path workspace.stream.command sound.command

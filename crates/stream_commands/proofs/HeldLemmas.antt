@@ -16,7 +16,7 @@ use Rattle.kept_files.specs.declared.kept_files.KeptCommit.{KeptCommit}
 use Rattle.kept_files.specs.KeptCommits.{AreBranches}
 use Rattle.open_commits.specs.declared.fault.Fault.{Fault as CommitFault}
 use Rattle.open_commits.specs.Calls.{AddsOnly}
-use Rattle.open_commits.specs.OpenCommit.{HeldCommit, OpenCommit, Stands, commit_in}
+use Rattle.open_commits.specs.OpenCommit.{HeldCommit, OpenCommit, Stands, open_commit_in}
 use Rattle.stream_parts.specs.declared.fault.Fault.{Fault}
 use Rattle.stream_parts.specs.OpenCommand.{OpenCommand, Changes, Inline, command_with}
 use Rattle.stream_parts.specs.Storing.{stored_or, with_content}
@@ -54,13 +54,13 @@ module _ (digest : List ℕ → List ℕ) (content : Content) (os more : List Ob
   command_grown (Inline held file) stands = (branch_grown held.files stands).0
   command_grown _ stands = tt
 
-  commit_same : (held : HeldCommit) → Stands os held → commit_in more held ≡ commit_in os held
+  commit_same : (held : HeldCommit) → Stands os held → open_commit_in more held ≡ open_commit_in os held
   commit_same held stands =
-      ap (λ (m : FileMap). record (commit_in os held) { files = m }) (branch_grown held.files stands).1
+      ap (λ (m : FileMap). record (open_commit_in os held) { files = m }) (branch_grown held.files stands).1
 
   -- the open command means what it meant
   pub command_same : (command : OpenCommand HeldCommit) → HoldsOpen os command
-      → command_with (commit_in more) command ≡ command_with (commit_in os) command
+      → command_with (open_commit_in more) command ≡ command_with (open_commit_in os) command
   command_same (Changes held) stands = ap (λ (c : OpenCommit). Changes c) (commit_same held stands)
   command_same (Inline held file) stands =
       ap (λ (c : OpenCommit). Inline c file) (commit_same held stands)

@@ -9,7 +9,7 @@ use Rattle.file_maps.specs.declared.entry.Entry.{Entry}
 use Rattle.file_maps.specs.FileMap.{Path}
 use Rattle.stream_grammar.specs.Acts.{ReplyCommand, GetMark, CatBlob, Ls, LsInCommit, Progress}
 use Rattle.open_commits.specs.OpenCommit.{OpenCommit}
-use Rattle.open_commits.specs.Showing.{entry_shown as commit_entry_shown}
+use Rattle.open_commits.specs.Showing.{commit_entry_shown}
 use Rattle.stream_parts.specs.declared.fault.Fault.{Fault}
 use Rattle.git_model.specs.Results.{and_then}
 use Rattle.stream_parts.specs.Marks.{marked_name, referred_name}
@@ -25,16 +25,16 @@ blob_shown workspace id =
     and_then (shown_object id (object_named id workspace.objects)) (λ line. prints workspace line)
 
 -- If nothing is at a path, this is printed: 'missing' SP <path> LF
-abbrev pub entry_line : Path → Option Entry → List ℕ
-entry_line path None = codes "missing " ++ quoted (joined path)
-entry_line path (Some e) = listing e.mode e.name (joined path)
+abbrev pub commit_entry_line : Path → Option Entry → List ℕ
+commit_entry_line path None = codes "missing " ++ quoted (joined path)
+commit_entry_line path (Some e) = listing e.mode e.name (joined path)
 
 abbrev pub branch_entry_shown : (List ℕ → List ℕ) → Path → OpenCommit → Workspace
     → Result Effect Fault
 branch_entry_shown digest path commit workspace =
     and_then (changed_or (commit_entry_shown digest workspace.objects commit.files path))
     (λ shown.
-    prints (record workspace { objects = shown.objects }) (entry_line path shown.entry))
+    prints (record workspace { objects = shown.objects }) (commit_entry_line path shown.entry))
 
 -- What a command prints. All but 'ls' in a commit leave the workspace as it is.
 unfoldable pub replied : (List ℕ → List ℕ) → ReplyCommand → Workspace → Result Effect Fault

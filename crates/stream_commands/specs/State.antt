@@ -12,7 +12,7 @@ use Rattle.stream_commands.specs.declared.open_command.OpenCommand.{OpenCommand 
 use Rattle.stream_commands.specs.declared.open_command.OpenCommand.TheVariants as lent
 use Rattle.stream_commands.specs.declared.state.StreamState.{StreamState as LentStreamState}
 use Rattle.kept_files.specs.declared.kept_files.KeptCommit.{KeptCommit}
-use Rattle.open_commits.specs.OpenCommit.{HeldCommit, commit_held, commit_in}
+use Rattle.open_commits.specs.OpenCommit.{HeldCommit, commit_held, open_commit_in}
 use Rattle.revisions.specs.declared.tag_ends.ChainCache.{ChainCache}
 use Rattle.stream_parts.specs.Marks.{Marks}
 use Rattle.stream_parts.specs.Branches.{Branches}
@@ -76,7 +76,7 @@ workspace_over state objects committed refs = record {
   objects = objects;
   committed = committed;
   refs = refs;
-  stream = stream_with (commit_in objects) state.stream;
+  stream = stream_with (open_commit_in objects) state.stream;
 }
 
 -- The same where the objects are in a table over a pool.

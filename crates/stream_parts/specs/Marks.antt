@@ -1,5 +1,6 @@
 -- Marks: git-fast-import(1), "mark".
 pub use Rattle.git_model.specs.Limits.{mark_limit}
+pub use Rattle.stream_marks.specs.View.{Marks}
 use Rattle.std.specs.Prelude.{ℕ, ◌||◌, Bool, nat_eq, nat_lt, if◌then◌else◌, List, length, Option, None, Some, is_some, Result, Ok, Err}
 use Rattle.std.specs.Map.{lookup}
 use Rattle.indexmap.specs.IndexMap.{insert_entry}
@@ -9,11 +10,6 @@ use Rattle.stream_grammar.specs.declared.data_ref.DataRef.TheVariants as data_re
 use Rattle.stream_grammar.specs.declared.marked_object.MarkedObject.{MarkedObject}
 use Rattle.stream_parts.specs.declared.fault.Fault.{Fault}
 use Rattle.stream_parts.specs.declared.fault.Fault.TheVariants as fault
-use Rattle.std.specs.Prelude.{ℕ, Bool, List, length, Option, None, Result, Ok}
-
--- Marks: the number of each, and the object that it stands for.
-abbrev pub Marks : Type 0
-Marks = List (ℕ × MarkedObject)
 
 -- The name of the object that a mark stands for.
 abbrev pub found_mark : Option MarkedObject → Result (List ℕ) Fault

@@ -9,7 +9,8 @@ use Rattle.stream_parts.specs.declared.headers.InlineFile.{InlineFile}
 
 -- What is open: no command; a commit or a tag before its message, with what its header lines have
 -- said; a reset, with the ref of its branch, until its `from` comes or another command opens; a
--- commit after its message; or a file of that commit that waits for its data. `Held` is how a commit is held after its message.
+-- commit after its message; or a file of that commit that waits for its data. `Held` is how a commit
+-- is held after its message.
 pub data OpenCommand (Held : Type 0) : Type 0 where
   Nothing : OpenCommand Held
   Commit : CommitHeader → OpenCommand Held

@@ -17,7 +17,7 @@ use Rattle.tenant_tables.specs.Objects.{objects}
 use Rattle.tenant_tables.specs.IsBackedBy.{PreservesOthers, AreCounted}
 use Rattle.tenant_tables.proofs.HoldLemmas.{held-nil}
 use Rattle.tenant_tables.proofs.TableLemmas.{IsBackedBy-nil, PreservesOthers-refl, length-objects, other_stands, other_objects, objects-take}
-use Rattle.open_commits.specs.OpenCommit.{commit_in}
+use Rattle.open_commits.specs.OpenCommit.{open_commit_in}
 use Rattle.stream_parts.specs.StreamOf.{stream_with}
 use Rattle.stream_commands.specs.State.{workspace_in}
 use Rattle.import_session.specs.Stream.{Runs, Refused}
@@ -41,7 +41,7 @@ held_in-other (phase.Running opened stream) p q t r same =
     ap (λ (os : List Object). Busy (record { objects = take opened.objects os; refs = opened.refs }) (Runs (record {
       workspace = record (workspace_in stream.session.state p t r) {
         objects = os;
-        stream = stream_with (commit_in os) stream.session.state.stream;
+        stream = stream_with (open_commit_in os) stream.session.state.stream;
       };
       parsing = stream.session.parsing;
       is_done = stream.session.is_done;

@@ -36,7 +36,7 @@ use Rattle.open_commits.specs.Changes.{all_deleted, blob_put, contents_put, dele
 use Rattle.open_commits.specs.Ends.{closed, commit_content}
 use Rattle.git_model.specs.Results.{and_then}
 use Rattle.open_commits.specs.OpenCommit.{OpenCommit, begun}
-use Rattle.open_commits.specs.Showing.{entry_shown, file_or_trees, found_shown}
+use Rattle.open_commits.specs.Showing.{commit_entry_shown, file_or_trees, found_shown}
 use Rattle.open_commits.specs.Storing.{stored, stored_or as commit_stored_or, trees_or, trees_stored}
 use Rattle.stream_parts.specs.declared.fault.Fault.{Fault}
 use Rattle.stream_parts.specs.declared.headers.CommitHeader.{CommitHeader}
@@ -49,7 +49,7 @@ use Rattle.stream_parts.specs.Marks.{marked_name, referred_name, room_for}
 use Rattle.stream_parts.specs.OpenCommand.{OpenCommand, changes_in, commit_header_in, inline_in, reset_in, tag_header_in}
 use Rattle.stream_parts.specs.OpenCommand as open_command
 use Rattle.stream_parts.specs.Printing.{shown_object}
-use Rattle.stream_parts.specs.Showing.{entry_shown as stored_entry_shown}
+use Rattle.stream_parts.specs.Showing.{entry_shown}
 use Rattle.stream_parts.specs.Storing.{stored_or, with_content}
 use Rattle.stream_parts.specs.Tags.{tag_content}
 use Rattle.stream_commands.specs.Checkpoints.{checkpoint, saved_refs}
@@ -170,7 +170,7 @@ contents_more digest os m path bytes commit =
     blob_more digest os m path (content_from kind.Blob bytes) commit
 
 shown_more : (digest : List ℕ → List ℕ) (os : List Object) (files : FileMap) (path : Path)
-    → IfOk (entry_shown digest os files path) (λ shown. Grows os shown.objects)
+    → IfOk (commit_entry_shown digest os files path) (λ shown. Grows os shown.objects)
 shown_more digest os files path = by (entry_at digest files path)
   where
     of_mode : (m : FileMode) → IfOk (file_or_trees digest os files path m) (Grows os)
@@ -315,14 +315,14 @@ module _ (w : Workspace) (within : w.committed ≤ length w.objects) where
       then_any stays (referred_name w.stream.marks object) _ (λ id.
       then_any stays (shown_object id (object_named id w.objects)) _ (λ line. still _ refl refl))
   reply_grows digest (Ls root path) =
-      then_any stays (stored_entry_shown w.objects w.stream.marks root path) _
+      then_any stays (entry_shown w.objects w.stream.marks root path) _
       (λ line. still _ refl refl)
   reply_grows digest (LsInCommit path) =
       then_any stays (changes_in w.stream.command) _ (λ commit.
       then_good (λ shown. Grows w.objects shown.objects) stays
-      (changed_or (entry_shown digest w.objects commit.files path)) _
+      (changed_or (commit_entry_shown digest w.objects commit.files path)) _
       (changed (λ shown. Grows w.objects shown.objects)
-      (entry_shown digest w.objects commit.files path)
+      (commit_entry_shown digest w.objects commit.files path)
       (shown_more digest w.objects commit.files path))
       (λ shown grows. grown w _ within refl grows))
   reply_grows digest (Progress line) = still _ refl refl

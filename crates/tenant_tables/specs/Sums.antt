@@ -1,18 +1,16 @@
 -- The sizes of all trees among objects: how many files, how deep, how long a path. The limits are
 -- those of gitpool.
-use Rattle.std.specs.Prelude.{◌≡◌, ◌≢◌, ℕ, ◌≤◌, List, [], ◌∷◌, map, fold, All, IsSomeAnd}
+use Rattle.std.specs.Prelude.{◌≡◌, ℕ, ◌≤◌, List, [], ◌∷◌, All}
 use Rattle.std.specs.Map.{lookup}
-use Rattle.std.specs.Option.{unwrap_or}
 use Rattle.std.specs.Str.{bytes_eq}
 use Rattle.git_model.specs.declared.kind.Kind.{Kind}
 use Rattle.git_model.specs.declared.kind.Kind.TheVariants as kind
-use Rattle.git_model.specs.declared.file_mode.FileMode.TheVariants as mode
 use Rattle.git_model.specs.Limits.{files_limit, path_bytes_limit, path_components_limit}
 use Rattle.git_model.specs.Tree.{TreeEntry, CanWriteTree, tree_contents}
 use Rattle.git_model.specs.TreeReading.{tree_read}
 use Rattle.git_model.specs.Repository.{Object}
 use Rattle.tenant_tables.specs.declared.summary.Summary.{Summary}
-use Rattle.tenant_tables.specs.Trees.{no_files, below, one_file, by_mode, both}
+use Rattle.tenant_tables.specs.Trees.{HasFilesBy, summary_by, tree_summary_by}
 
 -- The summaries of the trees so far, under their names. If a name has two, the newer one counts.
 abbrev pub Sums : Type 0
@@ -20,16 +18,14 @@ Sums = List (List ℕ × Summary)
 
 -- What an entry adds, and all entries of a tree.
 abbrev pub sum_of_entry : Sums → TreeEntry → Summary
-sum_of_entry sums e = by_mode e.mode
-    (below e.name (unwrap_or (lookup (bytes_eq e.id) sums) no_files)) (one_file e.name)
+sum_of_entry sums e = summary_by (λ id. lookup (bytes_eq id) sums) e
 
 abbrev pub sum_of_tree : Sums → List TreeEntry → Summary
-sum_of_tree sums es = fold both no_files (map (sum_of_entry sums) es)
+sum_of_tree sums es = tree_summary_by (λ id. lookup (bytes_eq id) sums) es
 
 -- The tree of a directory has at least one file.
 abbrev pub HasFiles : Sums → TreeEntry → Type 0
-HasFiles sums e = e.mode ≡ mode.Directory
-    → IsSomeAnd (lookup (bytes_eq e.id) sums) (λ s. s.files ≢ 0)
+HasFiles sums e = HasFilesBy (λ id. lookup (bytes_eq id) sums) e
 
 -- At most 1,048,576 files, 256 components, and paths of 16,383 bytes.
 pub record IsWithin (s : Summary) : Type 0 where

@@ -24,7 +24,8 @@ below name s = if s.files == 0 then no_files
 abbrev pub one_file : List ℕ → Summary
 one_file name = record { files = 1; depth = 1; longest = length name }
 
--- What an entry adds: a directory adds the files of its tree, every other entry adds itself.
+-- What an entry adds, by the summaries that are known of trees: a directory adds the files of its
+-- tree, every other entry adds itself.
 abbrev pub by_mode : FileMode → Summary → Summary → Summary
 by_mode mode.Directory directory file = directory
 by_mode mode.Regular directory file = file
@@ -32,8 +33,8 @@ by_mode mode.Executable directory file = file
 by_mode mode.Symlink directory file = file
 by_mode mode.Gitlink directory file = file
 
-abbrev pub entry_summary : Entries → TreeEntry → Summary
-entry_summary table e = by_mode e.mode (below e.name (unwrap_or (summary_of e.id table) no_files))
+abbrev pub summary_by : (List ℕ → Option Summary) → TreeEntry → Summary
+summary_by known e = by_mode e.mode (below e.name (unwrap_or (known e.id) no_files))
     (one_file e.name)
 
 -- The files of both; the longer of the two paths, and the deeper.
@@ -44,14 +45,23 @@ both s t = record {
   longest = max s.longest t.longest;
 }
 
--- The summary of a tree with these entries, by the summaries that the table has of its directories.
-abbrev pub tree_summary : Entries → List TreeEntry → Summary
-tree_summary table es = fold both no_files (map (entry_summary table) es)
+-- What all entries of a tree add.
+abbrev pub tree_summary_by : (List ℕ → Option Summary) → List TreeEntry → Summary
+tree_summary_by known es = fold both no_files (map (summary_by known) es)
 
--- A directory is in the table, as a tree with files.
+-- The tree of a directory is known, and has at least one file.
+abbrev pub HasFilesBy : (List ℕ → Option Summary) → TreeEntry → Type 0
+HasFilesBy known e = e.mode ≡ mode.Directory → IsSomeAnd (known e.id) (λ s. s.files ≢ 0)
+
+-- The same by the summaries that a table has.
+abbrev pub entry_summary : Entries → TreeEntry → Summary
+entry_summary table e = summary_by (λ id. summary_of id table) e
+
+abbrev pub tree_summary : Entries → List TreeEntry → Summary
+tree_summary table es = tree_summary_by (λ id. summary_of id table) es
+
 abbrev pub DirectoryStands : Entries → TreeEntry → Type 0
-DirectoryStands table e = e.mode ≡ mode.Directory
-    → IsSomeAnd (summary_of e.id table) (λ s. s.files ≢ 0)
+DirectoryStands table e = HasFilesBy (λ id. summary_of id table) e
 
 -- The bytes are the contents of a tree whose directories are in the table, and the summary is that
 -- of its files.

@@ -24,7 +24,7 @@ use Rattle.file_maps.proofs.StoredAgain.{lists-some, inside-some, filled-in}
 use Rattle.file_maps.proofs.Backed.{trees-good, stored-listed}
 use Rattle.tree_build.specs.Parts.{spread, part_of, AreParts}
 use Rattle.tree_build.specs.Rows.{IsPart, a_file, a_directory, HaveParts}
-use Rattle.tree_build.specs.Standing.{IsRow, stands_at, row_named, IsFoundAt}
+use Rattle.tree_build.specs.Standing.{HasEntry, stands_at, row_named, IsFoundAt}
 use Rattle.tree_build.proofs.Look.{turn_bytes}
 use Rattle.tree_build.proofs.Rows.{no_file, id-again}
 use Rattle.tree_build.proofs.Spread.{cut-spread}
@@ -240,7 +240,7 @@ not_found (Some e) h = cc h
 
 module _ {digest : List ℕ → List ℕ} {os : List Object} (backed : AreBacked digest os)
     {id : List ℕ} (t : ListsTree os id (stored_files os id))
-    {c : List ℕ} {o : Option Entry} (named : IsRow os id c o) where
+    {c : List ℕ} {o : Option Entry} (named : HasEntry os id c o) where
   abbrev rows : List TreeEntry
   rows = named.rows
 

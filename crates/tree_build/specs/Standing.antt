@@ -22,7 +22,7 @@ row_named [] c = None
 row_named (e ∷ es) c = if bytes_eq e.name c then Some e else row_named es c
 
 -- The entry `name` of the stored tree `id`, if it has one.
-pub record IsRow (os : List Object) (id name : List ℕ) (o : Option Entry) : Type 0 where
+pub record HasEntry (os : List Object) (id name : List ℕ) (o : Option Entry) : Type 0 where
   pub rows : List TreeEntry
   pub tree : HasTree os id rows
   pub row : o ≡ option_map what (row_named rows name)

@@ -4,7 +4,7 @@ ghost use Rattle.std.specs.{Prelude.{◌≡◌, ◌≤◌, ◌+◌, ◌∷◌, l
 ghost use Rattle.git_objects.specs.Parts.{entries_of};
 ghost use Rattle.file_maps.specs.{ByComponent.{what}, Edits.{cut}, StoredFiles.{stored_files}};
 ghost use Rattle.file_maps.specs.StoredTree.{ListsTree};
-ghost use Rattle.tree_build.specs.Standing.{stands_at, row_named, IsRow, IsFoundAt};
+ghost use Rattle.tree_build.specs.Standing.{stands_at, row_named, HasEntry, IsFoundAt};
 
 use file_maps::{Entry, read_entries};
 use git_objects::{FileMode, Memory, Name, Naming, TreeEntry};
@@ -35,7 +35,7 @@ fn row_at<N: Naming>(
     name: &[u8],
 ) -> Result<Option<Entry>, Memory>
     requires tree { ListsTree objects.now tree.now (stored_files objects.now tree.now) }
-    ensures { IfOk result (λ o. IsRow objects.now tree.now name.now o) }
+    ensures { IfOk result (λ o. HasEntry objects.now tree.now name.now o) }
 {
     let rows = read_entries(alloc, objects, tree)?;
     Ok(row_named(&rows, name))

@@ -2,13 +2,14 @@
 
 ghost use Rattle.std.specs.{Prelude.{◌≡◌, ◌++◌, IfOk, OnOk}, List.{AllByRecursion}};
 ghost use Rattle.git_model.specs.{ObjectName.{IsObjectName}, Tree.{entry_text, tree_contents}};
+ghost use Rattle.git_objects.specs.Parts.{entry_of};
 ghost use Rattle.tree_build.specs.{Chunks.{all}, Nodes.{held, shape_of}};
 ghost use Rattle.tree_build.specs.Stores.{IsNamed, AreNamed, entry_of_what, entries_of_shape};
 
 use crate::component::Component;
 use crate::dir::{Chunk, Node};
 use crate::storing::row_of;
-use git_objects::{Memory, has_twenty_bytes, write_tree};
+use git_objects::{Memory, TreeEntry, has_twenty_bytes, mode_digits};
 use std::alloc::Global;
 
 // How many bytes an entry takes: its mode, a space, its name, a NUL, and the name of its object.
@@ -37,6 +38,18 @@ fn size_of(chunks: &[Chunk]) -> usize {
     size
 }
 
+fn append_row(contents: &mut Vec<u8>, row: &TreeEntry<'_>) -> Result<(), Memory>
+    ensures { OnOk result (contents.new.items ≡ contents.old.items
+        ++ entry_text (entry_of row.now)) }
+{
+    contents.extend_from_slice(mode_digits(row.mode))?;
+    contents.extend_from_slice(b" ")?;
+    contents.extend_from_slice(row.name)?;
+    contents.push(0)?;
+    contents.extend_from_slice(row.id.as_bytes())?;
+    Ok(())
+}
+
 fn append_entry(contents: &mut Vec<u8>, entry: &(Component, Node)) -> Result<(), Memory>
     requires { IsNamed (held entry.now.1).what }
     ensures written { OnOk result (contents.new.items ≡ contents.old.items
@@ -45,7 +58,7 @@ fn append_entry(contents: &mut Vec<u8>, entry: &(Component, Node)) -> Result<(),
 {
     let row = row_of(entry);
     has_twenty_bytes(&row.id);
-    write_tree(&[row], contents)
+    append_row(contents, &row)
 }
 
 fn append_chunk(contents: &mut Vec<u8>, chunk: &[(Component, Node)]) -> Result<(), Memory>

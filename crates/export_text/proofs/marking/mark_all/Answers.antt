@@ -1,6 +1,6 @@
 use Rattle.std.proofs.Common.{ap, ◌∙◌}
 use Rattle.std.proofs.lemmas.List.{take_all}
-use Rattle.export_text.specs.Marking.{marked}
+use Rattle.export_text.specs.Marking.{with_flags}
 use Rattle.export_text.proofs.Pieces.{next-of}
 use Rattle.export_text.proofs.Marked.{one-more}
 use Rattle.export_text.proofs.marking.mark_all.Goals as goal
@@ -14,4 +14,4 @@ loop-id-preserved g c =
 pub returns : goal.returns
 returns g c =
     c.loop-id.invariant
-    ∙ ap (marked c.args.objects.now c.args.flags.now) (take_all c.loop-id.id-index c.args.ids.now c.loop-id-test.false)
+    ∙ ap (with_flags c.args.objects.now c.args.flags.now) (take_all c.loop-id.id-index c.args.ids.now c.loop-id-test.false)

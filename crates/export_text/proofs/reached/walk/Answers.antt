@@ -1,5 +1,5 @@
 use Rattle.std.proofs.Common.{◌-◌, length, sym, ap, ◌∙◌, arith}
-use Rattle.export_text.specs.Marking.{marked}
+use Rattle.export_text.specs.Marking.{with_flags}
 use Rattle.export_text.proofs.Reaching.{walked, walk_on, walk_past, walk_ends, walk_reaches}
 use Rattle.export_text.proofs.reached.walk.Goals as goal
 use Rattle.export_text.proofs.reached.walk.Goals.{then-flags-place+in_ok-ids, else-flags-place}
@@ -12,7 +12,7 @@ loop-place-preserved g c = elim c.if-flags-place.branch [
     walks = λ good. rw w.flags-is
         (walk_on c.args.objects.now c.loop-place.place (c.loop-place.place - 1) c.loop-place.flags w.mark_all.new.flags
         (let h = c.loop-place-test.true in omega arith) w.if-flags-place.true
-        (w.mark_all.ensures ∙ ap (marked c.args.objects.now c.loop-place.flags) (w.deref.ensures.value ∙ w.in_ok-ids.ensures good))
+        (w.mark_all.ensures ∙ ap (with_flags c.args.objects.now c.loop-place.flags) (w.deref.ensures.value ∙ w.in_ok-ids.ensures good))
         ∙ c.loop-place.invariant.walks good);
   }
   | else-flags-place w ↦ record {

@@ -1,7 +1,7 @@
 use Rattle.std.proofs.Common.{Ok, ap, sym, subst}
 use Rattle.std.proofs.lemmas.Result.{err_from_is_err_and}
 use Rattle.tenant_tables.specs.Objects.{objects}
-use Rattle.open_commits.specs.OpenCommit.{commit_held, commit_in, header_shown}
+use Rattle.open_commits.specs.OpenCommit.{commit_held, open_commit_in, header_shown}
 use Rattle.stream_parts.specs.OpenCommand.{command_with}
 use Rattle.stream_commands.specs.declared.open_command.OpenCommand.{OpenCommand as LentCommand}
 use Rattle.stream_commands.specs.State.{StreamState, command_shown, state_shown, workspace_in, CarriesOut}
@@ -15,7 +15,7 @@ unfolding commit_said
 returns-in_err-commit-clause-done g c out sound =
     let workspace = workspace_in (state_shown c.args.state.now) c.args.pool.now c.args.table.now c.args.refs.now in
     let taken = ap (λ (command : LentCommand). command_with
-    (commit_in (objects c.args.pool.now c.args.table.now.entries)) (command_shown command))
+    (open_commit_in (objects c.args.pool.now c.args.table.now.entries)) (command_shown command))
     c.take.ensures.after in
     let failed = err_from_is_err_and c.from_residual-in_err-commit.result c.from_residual-in_err-commit.ensures.1 in
     rw (sym c.take.ensures.taken, c.in-Commit.is, failed.1) (opened_refused workspace _ c.args.mark
@@ -30,7 +30,7 @@ unfolding commit_said
 returns-clause-done g c out sound =
     let workspace = workspace_in (state_shown c.args.state.now) c.args.pool.now c.args.table.now c.args.refs.now in
     let taken = ap (λ (command : LentCommand). command_with
-    (commit_in (objects c.args.pool.now c.args.table.now.entries)) (command_shown command))
+    (open_commit_in (objects c.args.pool.now c.args.table.now.entries)) (command_shown command))
     c.take.ensures.after in
     let opens = c.in_ok-commit.ensures.opened c.args.refs.now
     (without_command g.N.Naming.digest_of workspace _ taken sound) in

@@ -4,7 +4,7 @@ use Rattle.pool_file_format.specs.Format.{RawObject, RawTenant}
 use Rattle.pool_file_format.specs.Shown.{tenant_of, tenants_of}
 use Rattle.pool_file_checks.specs.Own.{names_of}
 use Rattle.pool_file_checks.specs.Quick.{KnowsSums}
-use Rattle.pool_file.specs.Building.{objects_at, IsChecked, Adds}
+use Rattle.pool_file.specs.Building.{objects_at, IsChecked, AddsTenants}
 use Rattle.pool_file.proofs.Items.{all_at, shown_on}
 use Rattle.pool_file.proofs.Built.{adds_none, adds_on}
 use Rattle.pool_file.proofs.building.add_tenants.Goals as goal
@@ -38,7 +38,7 @@ loop-tenant-preserved g c =
     let slots = c.args.slots.now in
     let t = c.tenant-item.result in
     let i = c.loop-tenant.tenant-index in
-    subst (λ (rs : List RawTenant). Adds digest slots c.args.pool.now c.args.tenants.now.items rs
+    subst (λ (rs : List RawTenant). AddsTenants digest slots c.args.pool.now c.args.tenants.now.items rs
     c.add_tenant.new.pool c.add_tenant.new.tenants.items)
     (sym (shown_on tenant_of c.args.all.now i t c.loop-tenant-test.true c.tenant-item.is))
     (adds_on digest slots c.args.pool.now c.loop-tenant.pool c.add_tenant.new.pool
@@ -48,7 +48,7 @@ loop-tenant-preserved g c =
 
 pub returns : goal.returns
 returns g c =
-    subst (λ (rs : List Tenant). Adds g.N.Naming.digest_of c.args.slots.now c.args.pool.now
+    subst (λ (rs : List Tenant). AddsTenants g.N.Naming.digest_of c.args.slots.now c.args.pool.now
     c.args.tenants.now.items (tenants_of rs) c.loop-tenant.pool c.loop-tenant.tenants.items)
     (take_all c.loop-tenant.tenant-index c.args.all.now c.loop-tenant-test.false)
     c.loop-tenant.invariant
