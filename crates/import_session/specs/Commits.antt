@@ -32,6 +32,7 @@ header_of mark said committer = record {
   encoding = said.encoding;
 }
 
+-- What the header lines of a commit have said, which must have a committer.
 abbrev pub header_said : Option ℕ → CommitHeader → Result Header Fault
 header_said mark said =
     and_then (already_said said.committer) (λ committer. Ok (header_of mark said committer))
@@ -117,6 +118,7 @@ abbrev pub open_closed : (List ℕ → List ℕ) → Workspace → OpenCommand O
 open_closed digest workspace (Changes commit) = commit_closed digest workspace commit
 open_closed digest workspace _ = Ok workspace
 
+-- Where it has to end, the open commit ends; else the workspace stays as it is.
 abbrev pub closed_where : (List ℕ → List ℕ) → Bool → Workspace → Result Workspace Fault
 closed_where digest false workspace = Ok workspace
 closed_where digest true workspace = open_closed digest workspace workspace.stream.command

@@ -25,6 +25,8 @@ abbrev pub started_or_cleared : List Object → Option (List ℕ) → OpenCommit
 started_or_cleared objects None commit = Ok (all_deleted commit)
 started_or_cleared objects (Some id) commit = changed_or (started_from objects id commit)
 
+-- The commit opens on its branch, which is one of the stream's from then on. If it has a first
+-- parent, it begins with the files of that.
 abbrev pub opened_at : Workspace → Option (List ℕ) → OpenCommit → Result Effect Fault
 opened_at workspace first commit =
     and_then (branch_set workspace.stream.branches commit.header.ref (tip_for first)) (λ branches.
@@ -33,6 +35,7 @@ opened_at workspace first commit =
       stream = record workspace.stream { branches = branches; command = Changes opening };
     })))
 
+-- The first parent is the commit of the branch, if the stream has that branch at a commit.
 abbrev pub opened_with : Workspace → List ℕ → Header → Result Effect Fault
 opened_with workspace message header =
     opened_at workspace (tip_commit workspace.stream.branches header.ref) (begun header message)

@@ -30,6 +30,7 @@ pub record Step : Type 0 where
   pub running : Running
   pub reply : List ℕ
 
+-- Whether an act is 'done'.
 abbrev pub is_finish : Act → Bool
 is_finish (Control control.Done) = true
 is_finish _ = false
@@ -77,9 +78,11 @@ pub record Outcome : Type 0 where
   pub replies : List ℕ
   pub status : StreamStatus
 
+-- A reply comes before what comes later.
 abbrev pub after_reply : List ℕ → Outcome → Outcome
 after_reply reply later = record { replies = reply ++ later.replies; status = later.status }
 
+-- A refused stream prints nothing more, and the repository is that of the last checkpoint.
 abbrev pub refused : ℕ → Workspace → Outcome
 refused code workspace =
     record { replies = []; status = Refused code (last_checkpoint workspace) }
@@ -96,6 +99,7 @@ at_tail now tail =
     if now.is_done then record { replies = []; status = Runs now (Rest false []) }
     else tail_outcome now tail
 
+-- After a step its reply is printed, and the stream goes on; after a fault it is refused.
 abbrev pub going_on : Running → Result Step Fault → (Running → Outcome) → Outcome
 going_on now (Ok step) later = after_reply step.reply (later step.running)
 going_on now (Err fault) later = refused (code_of fault) now.workspace
@@ -113,6 +117,7 @@ pub record End : Type 0 where
   pub reply : List ℕ
   pub repository : Repository
 
+-- A stream that ends well prints its last reply, and the repository is that of its checkpoint.
 abbrev pub ended_well : List ℕ → Workspace → End
 ended_well reply workspace =
     record { fault = None; reply = reply; repository = last_checkpoint workspace }
@@ -127,6 +132,8 @@ abbrev pub unless_done_missing : Workspace → Result Unit Fault
 unless_done_missing workspace =
     if workspace.stream.needs_done then Err fault.DoneMissing else Ok tt
 
+-- At the end of the bytes no item may wait for more, 'done' must not be missing, the open commit
+-- ends, and there is a last checkpoint.
 abbrev pub commands_end : (List ℕ → List ℕ) → Running → Result Effect Fault
 commands_end digest now =
     and_then (text_first (end_of now.parsing)) (λ ends_commit.
@@ -138,6 +145,7 @@ unfoldable pub session_end : (List ℕ → List ℕ) → Running → Result Effe
 session_end digest now =
     if now.is_done then quiet now.workspace else commands_end digest now
 
+-- The end of a stream, by what its last commands have left.
 abbrev pub end_left : Workspace → Result Effect Fault → End
 end_left workspace (Ok effect) = ended_well effect.reply effect.workspace
 end_left workspace (Err fault) = ended_by (code_of fault) (last_checkpoint workspace)
@@ -147,6 +155,8 @@ abbrev pub bytes_end : (List ℕ → List ℕ) → Running → List ℕ → End
 bytes_end digest now [] = end_left now.workspace (session_end digest now)
 bytes_end digest now (byte ∷ bytes) = ended_by 6 (last_checkpoint now.workspace)
 
+-- The end of a stream that is running: the rest of its bytes ends, or the fault of its last item is
+-- told.
 abbrev pub running_end : (List ℕ → List ℕ) → Running → Tail → End
 running_end digest now (Rest skips bytes) = bytes_end digest now bytes
 running_end digest now (Failed fault) = ended_by (item_code fault) (last_checkpoint now.workspace)

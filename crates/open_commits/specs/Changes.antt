@@ -38,6 +38,7 @@ name_as wanted object =
     if bytes_eq (kind_word object.kind) (kind_word wanted) then Ok object.name
     else Err fault.WrongKind
 
+-- The name of the object that a mark stands for, if it is of a kind.
 abbrev pub marked_as : Marks → Kind → ℕ → Result (List ℕ) Fault
 marked_as marks wanted mark = and_then (marked_object marks mark) (name_as wanted)
 
@@ -65,6 +66,7 @@ blob_of os marks (data_ref.Name id) = held_as os kind.Blob id
 
 -- ---- filemodify
 
+-- An entry of this mode and this object.
 abbrev pub entry_of : FileMode → List ℕ → Entry
 entry_of mode id = record { mode = mode; name = id }
 
@@ -95,6 +97,7 @@ pub record Left : Type 0 where
   pub commit : OpenCommit
   pub objects : List Object
 
+-- What a change leaves: the commit, and the objects.
 abbrev pub left_with : List Object → OpenCommit → Left
 left_with os commit = record { commit = commit; objects = os }
 

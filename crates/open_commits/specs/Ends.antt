@@ -24,6 +24,7 @@ commit_of tree commit = record {
   message = commit.message;
 }
 
+-- The commit object that an open commit makes.
 abbrev pub commit_content : (List ℕ → List ℕ) → OpenCommit → Content
 commit_content digest commit =
     content_from kind.Commit (commit_contents

@@ -32,6 +32,7 @@ pub record IsGoodCommit (os : List Object) (commit : OpenCommit) : Type 0 where
 abbrev pub IsMarked : List Object → MarkedObject → Type 0
 IsMarked os object = kind_named object.name os ≡ Some object.kind
 
+-- Each mark stands for an object that is there, of the kind that it says.
 abbrev pub AreMarks : List Object → Marks → Type 0
 AreMarks os marks = All (λ mark. IsMarked os mark.1) marks
 

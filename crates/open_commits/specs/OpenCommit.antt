@@ -29,6 +29,7 @@ abbrev pub begun_on : Header → List ℕ → FileMap → OpenCommit
 begun_on header message files =
     record { header = header; message = message; parents = []; files = files }
 
+-- A commit that begins without files.
 abbrev pub begun : Header → List ℕ → OpenCommit
 begun header message = begun_on header message finmap.empty
 
@@ -57,6 +58,7 @@ Stands os held = IsBranch os held.files
 
 -- ---- the same without where it lies
 
+-- The header lines of a commit, with its borrowed texts as they are now.
 abbrev pub header_shown : LentHeader → Header
 header_shown header = record {
   ref = header.ref_name;
@@ -66,6 +68,7 @@ header_shown header = record {
   encoding = option_map (λ text. text.items) header.encoding;
 }
 
+-- A commit after its message, with its header, its message, its parents and its files.
 abbrev pub commit_held : LentCommit → HeldCommit
 commit_held commit = record {
   header = header_shown commit.header;
@@ -78,6 +81,7 @@ commit_held commit = record {
 abbrev pub shown_in : List Object → LentCommit → OpenCommit
 shown_in os commit = open_commit_in os (commit_held commit)
 
+-- Its files are a branch among these objects.
 abbrev pub IsCommitHeld : List Object → LentCommit → Type 0
 IsCommitHeld os commit = Stands os (commit_held commit)
 

@@ -23,6 +23,7 @@ abbrev pub file_or_trees : (List ℕ → List ℕ) → List Object → FileMap �
 file_or_trees digest os files path mode.Directory = trees_stored digest (files_at files path) os
 file_or_trees digest os files path file = Ok os
 
+-- What was found is shown: an entry, and the trees of a directory; or that nothing is there.
 abbrev pub found_shown : (List ℕ → List ℕ) → List Object → FileMap → Path → Option Entry
     → Result Shown Fault
 found_shown digest os files path None = Ok (record { entry = None; objects = os })
@@ -30,6 +31,7 @@ found_shown digest os files path (Some e) =
     and_then (file_or_trees digest os files path e.mode) (λ more.
     Ok (record { entry = Some e; objects = more }))
 
+-- What is at a path of the files of a commit.
 abbrev pub commit_entry_shown : (List ℕ → List ℕ) → List Object → FileMap → Path → Result Shown Fault
 commit_entry_shown digest os files path =
     found_shown digest os files path (entry_at digest files path)
@@ -40,10 +42,12 @@ abbrev pub trees_by_mode : FileMode → List (List TreeEntry) → List (List Tre
 trees_by_mode mode.Directory trees = trees
 trees_by_mode file trees = []
 
+-- The trees of what was found.
 abbrev pub trees_of_entry : Option Entry → List (List TreeEntry) → List (List TreeEntry)
 trees_of_entry None trees = []
 trees_of_entry (Some e) trees = trees_by_mode e.mode trees
 
+-- The trees of what is at a path of these files.
 abbrev pub shown_trees : (List ℕ → List ℕ) → FileMap → Path → List (List TreeEntry)
 shown_trees digest files path =
     trees_of_entry (entry_at digest files path) (nested_trees digest (files_at files path))

@@ -18,6 +18,7 @@ abbrev pub stored_or : List ℕ → Content → List Object → Option TableFaul
 stored_or id content os None = Ok (with_object id content os)
 stored_or id content os (Some refusal) = Err (storing_fault refusal)
 
+-- The objects with a content that is stored.
 abbrev pub stored : (List ℕ → List ℕ) → Content → List Object → Result (List Object) Fault
 stored digest content os =
     stored_or (name_by digest content) content os (store_fault (name_by digest content) content os)
@@ -29,6 +30,7 @@ abbrev pub trees_or : (List ℕ → List ℕ) → List (List TreeEntry) → List
 trees_or digest trees os None = Ok (with_trees digest trees os)
 trees_or digest trees os (Some refusal) = Err (editing_fault refusal)
 
+-- The objects with the trees of these files, children first.
 abbrev pub trees_stored : (List ℕ → List ℕ) → Listed → List Object → Result (List Object) Fault
 trees_stored digest files os = let trees = nested_trees digest files in
     trees_or digest trees os (trees_fault digest trees os)

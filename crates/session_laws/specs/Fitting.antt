@@ -96,6 +96,7 @@ abbrev pub FitsReply : ReplyCommand → Workspace → Type 0
 FitsReply (LsInCommit path) workspace = IsChanging workspace.stream.command
 FitsReply _ workspace = Unit {0}
 
+-- What a command stores fits into a repository; commands that store nothing fit.
 abbrev pub Fits : Act → Workspace → Type 0
 Fits (Object command) workspace = FitsObject command workspace
 Fits (Commit command) workspace = FitsCommit command workspace

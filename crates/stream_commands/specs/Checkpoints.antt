@@ -16,6 +16,7 @@ may_set workspace tip None = true
 may_set workspace tip (Some old) =
     workspace.stream.forces || is_fast_forward workspace.objects old tip
 
+-- Whether a checkpoint sets a ref to this tip.
 abbrev pub moves : Workspace → List ℕ → List ℕ → Bool
 moves workspace ref tip = may_set workspace tip (target_of workspace.refs ref)
 
@@ -34,6 +35,7 @@ kept_by workspace ref Deleted = []
 kept_by workspace ref (At tip) =
     if moves workspace ref tip then [] else codes "kept " ++ ref ++ codes "\n"
 
+-- The lines of all refs that a checkpoint does not set.
 abbrev pub kept_lines : Workspace → Branches → List ℕ
 kept_lines workspace branches =
     flat_map (λ branch. kept_by workspace branch.0 branch.1) branches

@@ -17,5 +17,6 @@ changing_fault commit_fault.NameCollision = fault.NameCollision
 changing_fault commit_fault.Limit = fault.Limit
 changing_fault commit_fault.Memory = fault.Memory
 
+-- What a change answers, and its fault as one of the stream.
 abbrev pub changed_or : {A : Type 0} → Result A CommitFault → Result A Fault
 changed_or changed = refused_as changing_fault changed

@@ -37,6 +37,7 @@ tip_from workspace ref from =
     if is_zeros from then Ok Deleted
     else and_then (start_in workspace ref from) (λ id. Ok (At id))
 
+-- The branch is set to the tip that its 'from' gives, and no command is open.
 abbrev pub branch_placed : CommitIsh → List ℕ → Workspace → Result Effect Fault
 branch_placed from ref workspace =
     and_then (tip_from workspace ref from) (λ tip. quiet (record workspace {

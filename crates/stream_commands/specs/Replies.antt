@@ -20,6 +20,7 @@ use Rattle.stream_commands.specs.Faults.{changed_or}
 use Rattle.stream_commands.specs.Workspace.{Workspace, Effect}
 use Rattle.stream_commands.specs.Printing.{prints}
 
+-- 'cat-blob' prints the blob of this name.
 abbrev pub blob_shown : Workspace → List ℕ → Result Effect Fault
 blob_shown workspace id =
     and_then (shown_object id (object_named id workspace.objects)) (λ line. prints workspace line)
@@ -29,6 +30,7 @@ abbrev pub commit_entry_line : Path → Option Entry → List ℕ
 commit_entry_line path None = codes "missing " ++ quoted (joined path)
 commit_entry_line path (Some e) = listing e.mode e.name (joined path)
 
+-- 'ls' prints what is at a path of a commit. The trees that it shows are stored.
 abbrev pub branch_entry_shown : (List ℕ → List ℕ) → Path → OpenCommit → Workspace
     → Result Effect Fault
 branch_entry_shown digest path commit workspace =

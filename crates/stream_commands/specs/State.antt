@@ -49,6 +49,7 @@ stream_shown state = record {
   needs_done = state.needs_done;
 }
 
+-- The state of a stream.
 abbrev pub state_shown : LentStreamState → StreamState
 state_shown state = record { stream = stream_shown state; kept = state.kept; chain = state.chain }
 
@@ -66,6 +67,7 @@ abbrev pub branched : StreamState → Branches → StreamState
 branched state branches =
     record state { stream = record state.stream { branches = branches } }
 
+-- The state with these marks.
 abbrev pub marked : StreamState → Marks → StreamState
 marked state marks = record state { stream = record state.stream { marks = marks } }
 

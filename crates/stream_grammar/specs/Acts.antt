@@ -68,5 +68,6 @@ pub record Effect : Type 0 where
   pub mark : Option ℕ
   pub act : Act
 
+-- A part brings a mark and an act.
 abbrev pub brings : Option ℕ → Act → Result Effect Fault
 brings mark act = Ok (record { mark = mark; act = act })

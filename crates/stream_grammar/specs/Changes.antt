@@ -36,11 +36,13 @@ mode_inline mode.Directory = Err fault.Malformed
 abbrev pub Path : Type 0
 Path = List (List ℕ)
 
+-- A fault of a path, as one of the grammar.
 abbrev pub fault_of_path : PathFault → Fault
 fault_of_path path_fault.BadPath = fault.BadPath
 fault_of_path path_fault.Limit = fault.Limit
 fault_of_path path_fault.Memory = fault.Memory
 
+-- A path that was read, or its fault as one of the grammar.
 abbrev pub path_read : {A : Type 0} → Result A PathFault → Result A Fault
 path_read found = refused_as fault_of_path found
 
@@ -72,6 +74,7 @@ modified text =
 abbrev pub inline_path : List ℕ → Result Path Fault
 inline_path rest = read (required (after_space rest)) (λ text. last_path text)
 
+-- 'M' <mode> 'inline' <path>: the mode and the path.
 abbrev pub modified_inline : List ℕ → Result (FileMode × Path) Fault
 modified_inline text =
     read (mode_of (first_word text)) (λ mode.
@@ -88,5 +91,6 @@ is_quoted (byte ∷ bytes) = byte == 34
 abbrev pub is_encoding : List ℕ → Bool
 is_encoding text = nat_lt 0 (length text) && list_all (λ byte. not (byte == 10)) text
 
+-- 'encoding' <encoding>: the text, if it is an encoding.
 abbrev pub encoding_of : List ℕ → Result (List ℕ) Fault
 encoding_of text = if is_encoding text then Ok text else Err fault.Malformed

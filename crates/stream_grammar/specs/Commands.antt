@@ -127,6 +127,7 @@ abbrev pub done_of : Result Step Fault → Result Done Fault
 done_of (Ok step) = Ok step.done
 done_of (Err e) = Err e
 
+-- What the grammar expects after a step. A refused line leaves the fault.
 abbrev pub next_of : Result Step Fault → Parsing
 next_of (Ok step) = Ok step.next
 next_of (Err e) = Err e

@@ -24,6 +24,7 @@ ident_judged (Ok ident) = Ok ident
 ident_judged (Err BadIdentity) = Err fault.BadIdentity
 ident_judged (Err BadDate) = Err fault.BadDate
 
+-- A text as an ident.
 abbrev pub ident_of : List ℕ → Result (List ℕ) Fault
 ident_of text = ident_judged (read_ident text)
 
@@ -37,5 +38,6 @@ abbrev pub commit_at : List ℕ → Option (List ℕ) → Result CommitIsh Fault
 commit_at text None = Ok (Expression text)
 commit_at text (Some digits) = read (idnum_of digits) (λ mark. Ok (Marked mark))
 
+-- A text as a commit-ish: a mark after a colon, or an expression.
 abbrev pub commit_ish_of : List ℕ → Result CommitIsh Fault
 commit_ish_of text = commit_at text (after_colon text)

@@ -82,6 +82,7 @@ abbrev pub first_fit : List (List ℕ × Part) → List ℕ → Part
 first_fit [] text = part.Unknown
 first_fit (row ∷ rows) text = if fits row.0 text then row.1 else first_fit rows text
 
+-- The part of the first word that the text begins with.
 unfoldable pub part_by_word : List ℕ → Part
 part_by_word text = first_fit words text
 

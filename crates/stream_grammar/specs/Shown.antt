@@ -46,6 +46,7 @@ object_shown (object.TagTarget target) = TagTarget (commit_shown target)
 object_shown (object.Tagger ident) = Tagger ident
 object_shown (object.Tag mark message) = Tag mark message.now
 
+-- A command of a commit.
 abbrev pub commit_command_shown : LentCommit → CommitCommand
 commit_command_shown (commit.Begin ref) = Begin ref
 commit_command_shown (commit.Author ident) = Author ident
@@ -55,6 +56,7 @@ commit_command_shown (commit.Message mark message) = Message mark message.now
 commit_command_shown (commit.From from) = From (commit_shown from)
 commit_command_shown (commit.Merge other) = Merge (commit_shown other)
 
+-- A change to the files of a commit.
 abbrev pub change_shown : LentChange → FileChange
 change_shown (change.Modify mode object path) = Modify mode object path
 change_shown (change.ModifyInline mode path) = ModifyInline mode path
@@ -64,11 +66,13 @@ change_shown (change.Copy source path) = Copy source path
 change_shown (change.Rename source path) = Rename source path
 change_shown change.DeleteAll = DeleteAll
 
+-- A command that sets a branch or a mark.
 abbrev pub ref_command_shown : LentRef → RefCommand
 ref_command_shown (ref.Reset branch) = Reset branch
 ref_command_shown (ref.ResetFrom from) = ResetFrom (commit_shown from)
 ref_command_shown (ref.Alias mark target) = Alias mark (commit_shown target)
 
+-- A command that prints.
 abbrev pub reply_shown : LentReply → ReplyCommand
 reply_shown (reply.GetMark mark) = GetMark mark
 reply_shown (reply.CatBlob object) = CatBlob object

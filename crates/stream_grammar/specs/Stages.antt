@@ -32,11 +32,13 @@ use Rattle.stream_grammar.specs.Commands.{opened_after}
 abbrev pub from_term : ℕ → OpeningLine → List Term
 from_term n line = drop n (production line)
 
+-- The terms of a blob from its next part on.
 abbrev pub blob_terms : BlobNext → List Term
 blob_terms blob.Mark = from_term 0 opening.Blob
 blob_terms blob.OriginalOid = from_term 1 opening.Blob
 blob_terms blob.Data = from_term 2 opening.Blob
 
+-- The terms of a commit from its next part on, where its message has not come.
 abbrev pub commit_terms : CommitNext → List Term
 commit_terms commit.Mark = from_term 0 opening.Commit
 commit_terms commit.OriginalOid = from_term 1 opening.Commit
@@ -45,11 +47,13 @@ commit_terms commit.Committer = from_term 3 opening.Commit
 commit_terms commit.Encoding = from_term 4 opening.Commit
 commit_terms commit.Data = from_term 5 opening.Commit
 
+-- The terms of a commit from its next part on, after its message.
 abbrev pub change_terms : ChangeNext → List Term
 change_terms change.From = from_term 6 opening.Commit
 change_terms change.Merge = from_term 7 opening.Commit
 change_terms change.Change = from_term 8 opening.Commit
 
+-- The terms of a tag from its next part on.
 abbrev pub tag_terms : TagNext → List Term
 tag_terms tag.Mark = from_term 0 opening.Tag
 tag_terms tag.From = from_term 1 opening.Tag
@@ -57,10 +61,12 @@ tag_terms tag.OriginalOid = from_term 2 opening.Tag
 tag_terms tag.Tagger = from_term 3 opening.Tag
 tag_terms tag.Data = from_term 4 opening.Tag
 
+-- The terms of a reset from its next part on.
 abbrev pub reset_terms : ResetNext → List Term
 reset_terms reset.From = from_term 0 opening.Reset
 reset_terms reset.Blank = from_term 1 opening.Reset
 
+-- The terms of an alias from its next part on.
 abbrev pub alias_terms : AliasNext → List Term
 alias_terms alias.Mark = from_term 0 opening.Alias
 alias_terms alias.To = from_term 1 opening.Alias
@@ -106,6 +112,7 @@ takes_from opened.Tag = true
 takes_from opened.Reset = true
 takes_from _ = false
 
+-- Whether what is open takes data.
 abbrev pub takes_data : Opened → Bool
 takes_data opened.Blob = true
 takes_data opened.Commit = true
@@ -113,6 +120,7 @@ takes_data opened.Inline = true
 takes_data opened.Tag = true
 takes_data _ = false
 
+-- Whether an alias takes its 'to' now.
 abbrev pub takes_to : Stage → Bool
 takes_to (stage.Alias alias.To) = true
 takes_to _ = false

@@ -34,6 +34,7 @@ abbrev pub up_to_index : Option ℕ → List ℕ → List ℕ
 up_to_index None text = text
 up_to_index (Some index) text = take index text
 
+-- A text up to its first space.
 abbrev pub first_word : List ℕ → List ℕ
 first_word text = up_to_index (position_from is_space 0 text) text
 
@@ -60,6 +61,7 @@ numbered (Some number) = if number == 0 then Err fault.BadMark else Ok number
 abbrev pub idnum_of : List ℕ → Result ℕ Fault
 idnum_of text = numbered (number_of text)
 
+-- The number of a mark, which must have had a colon before its digits.
 abbrev pub marked : Option (List ℕ) → Result ℕ Fault
 marked None = Err fault.Malformed
 marked (Some digits) = idnum_of digits
@@ -73,6 +75,7 @@ abbrev pub named : Result (List ℕ) FromHexError → Result DataRef Fault
 named (Ok id) = Ok (data_ref.Name id)
 named (Err e) = Err fault.Malformed
 
+-- A dataref: a mark, whose digits came after a colon, or the name of an object.
 abbrev pub referred : List ℕ → Option (List ℕ) → Result DataRef Fault
 referred text None = named (decode_sized text 20)  -- 40 hexadecimal digits of either case
 referred text (Some digits) = read (idnum_of digits) (λ mark. Ok (data_ref.Mark mark))

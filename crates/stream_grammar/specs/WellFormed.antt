@@ -53,6 +53,7 @@ IsWellFormedObject (BeginTag ref) = IsTagRef ref
 IsWellFormedObject (Tagger ident) = IsWrittenIdent ident
 IsWellFormedObject _ = Unit {0}
 
+-- A command of a commit is well formed.
 abbrev pub IsWellFormedCommit : CommitCommand → Type 0
 IsWellFormedCommit (Begin ref) = NamesShortRef ref
 IsWellFormedCommit (Author ident) = IsWrittenIdent ident
@@ -60,6 +61,7 @@ IsWellFormedCommit (Committer ident) = IsWrittenIdent ident
 IsWellFormedCommit (Encoding encoding) = IsEncoding encoding
 IsWellFormedCommit _ = Unit {0}
 
+-- A change to the files of a commit is well formed.
 abbrev pub IsWellFormedChange : FileChange → Type 0
 IsWellFormedChange (Modify file_mode object path) = IsReferred object × IsTreePath path
 IsWellFormedChange (ModifyInline file_mode path) = HoldsContents file_mode × IsTreePath path
@@ -68,16 +70,19 @@ IsWellFormedChange (Copy source path) = IsTreePath source × IsTreePath path
 IsWellFormedChange (Rename source path) = IsTreePath source × IsTreePath path
 IsWellFormedChange _ = Unit {0}
 
+-- A command that sets a branch or a mark is well formed.
 abbrev pub IsWellFormedRef : RefCommand → Type 0
 IsWellFormedRef (Reset ref) = NamesShortRef ref
 IsWellFormedRef _ = Unit {0}
 
+-- A command that prints is well formed.
 abbrev pub IsWellFormedReply : ReplyCommand → Type 0
 IsWellFormedReply (CatBlob object) = IsReferred object
 IsWellFormedReply (Ls root path) = IsReferred root × IsTreePath path
 IsWellFormedReply (LsInCommit path) = IsTreePath path
 IsWellFormedReply _ = Unit {0}
 
+-- A command that controls the stream is well formed.
 abbrev pub IsWellFormedControl : ControlCommand → Type 0
 IsWellFormedControl (control.Head ref) = IsShortRefName ref
 IsWellFormedControl _ = Unit {0}

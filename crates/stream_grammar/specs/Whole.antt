@@ -21,6 +21,7 @@ left_by (Stands left) next = next left
 left_by Ends next = None
 left_by Misses next = None
 
+-- The terms that are left after parts that stand for the first ones.
 abbrev pub left_by_parts : List Part → List Term → Option (List Term)
 left_by_parts [] terms = Some terms
 left_by_parts (part ∷ parts) terms = left_by (fit part terms) (λ left. left_by_parts parts left)
@@ -45,6 +46,7 @@ terms_next part (Stands left) = Some left
 terms_next part Ends = production_of part
 terms_next part Misses = None
 
+-- The terms that are left after parts that came in turn.
 abbrev pub left_in_turn : List Part → List Term → Option (List Term)
 left_in_turn [] terms = Some terms
 left_in_turn (part ∷ parts) terms =

@@ -23,6 +23,7 @@ Branches = List (List ℕ × Tip)
 abbrev pub NamesBranch : List ℕ → Type 0
 NamesBranch ref = NamesRef ref × (length ref ≤ ref_name_limit)
 
+-- Each branch has the name of a ref.
 abbrev pub AreRefNames : Branches → Type 0
 AreRefNames branches = AllByRecursion (λ branch. NamesBranch branch.0) branches
 

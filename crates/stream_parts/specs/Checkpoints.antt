@@ -14,6 +14,7 @@ abbrev pub reaches_old : List Object → List ℕ → Option (List ℕ) → Bool
 reaches_old objects tip None = false
 reaches_old objects tip (Some old) = reaches objects tip old
 
+-- Whether a ref that stands for `old` may be set to this tip without force.
 abbrev pub is_fast_forward : List Object → List ℕ → List ℕ → Bool
 is_fast_forward objects old tip = reaches_old objects tip (peeled_to objects kind.Commit old)
 

@@ -43,6 +43,7 @@ resolving_fault revision_fault.UnknownRevision = fault.UnknownRevision
 resolving_fault revision_fault.Ambiguous = fault.Ambiguous
 resolving_fault revision_fault.Memory = fault.Memory
 
+-- What a query for an object answers, and its fault as one of the stream.
 abbrev pub resolved_or : {A : Type 0} → Result A RevisionFault → Result A Fault
 resolved_or found = refused_as resolving_fault found
 

@@ -16,6 +16,7 @@ abbrev pub found_mark : Option MarkedObject → Result (List ℕ) Fault
 found_mark None = Err fault.MarkUnknown
 found_mark (Some object) = Ok object.name
 
+-- The name of the object that a mark stands for, which must be set.
 abbrev pub marked_name : Marks → ℕ → Result (List ℕ) Fault
 marked_name marks mark = found_mark (lookup (nat_eq mark) marks)
 
@@ -28,6 +29,7 @@ referred_name marks (data_ref.Name id) = Ok id
 unfoldable pub has_room : Marks → ℕ → Bool
 has_room marks mark = is_some (lookup (nat_eq mark) marks) || nat_lt (length marks) mark_limit
 
+-- There is room for the mark of a command, if it has one.
 abbrev pub room_for : Marks → Option ℕ → Result Unit Fault
 room_for marks None = Ok tt
 room_for marks (Some mark) = if has_room marks mark then Ok tt else Err fault.Limit

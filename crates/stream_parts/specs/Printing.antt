@@ -22,10 +22,12 @@ abbrev pub blob_text : List ℕ → List ℕ → List ℕ
 blob_text id bytes =
     encode_lower id ++ codes " blob " ++ decimal (length bytes) ++ codes "\n" ++ bytes
 
+-- A blob is shown, and nothing else.
 abbrev pub shown_content : List ℕ → Kind → List ℕ → Result (List ℕ) Fault
 shown_content id kind.Blob bytes = Ok (blob_text id bytes)
 shown_content id _ bytes = Err fault.WrongKind
 
+-- An object that is missing is named so.
 abbrev pub shown_object : List ℕ → Option Content → Result (List ℕ) Fault
 shown_object id None = Ok (encode_lower id ++ codes " missing")
 shown_object id (Some content) = shown_content id content.kind content.bytes

@@ -20,6 +20,7 @@ abbrev pub stored_or : List ℕ → Content → List Object → Option TableFaul
 stored_or id content objects None = Ok (with_object id content objects)
 stored_or id content objects (Some refusal) = Err (storing_fault refusal)
 
+-- The objects with a content that is stored.
 abbrev pub with_content : (List ℕ → List ℕ) → Content → List Object → Result (List Object) Fault
 with_content digest content objects =
     stored_or (name_by digest content) content objects

@@ -34,6 +34,7 @@ pub record Held : Type 0 where
   pub tail : Tail
   pub out : List ℕ
 
+-- The stream with its tenant's pool, table and refs, and what it has printed.
 abbrev pub held_with : StreamView → Cells → View → RefStore → List ℕ → Held
 held_with stream pool table refs out = record {
   running = stream_in stream pool table refs;
