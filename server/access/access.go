@@ -193,3 +193,15 @@ func (a *Access) Key(login string, key ssh.PublicKey) (user string, ok bool) {
 	user, ok = a.rules.Get().keys[string(key.Marshal())]
 	return user, ok && (login == user || login == Login)
 }
+
+// Hash gives the hash of a user's password as it is now, or "".
+func (a *Access) Hash(user string) string { return a.rules.Get().passwords[user] }
+
+// IsStill tells whether what let a user in is the user's still: a key, as Marshal gives it, or else the hash of a password.
+func (a *Access) IsStill(user, key, hash string) bool {
+	r := a.rules.Get()
+	if key != "" {
+		return r.keys[key] == user
+	}
+	return hash != "" && r.passwords[user] == hash
+}

@@ -264,6 +264,34 @@ func TestKeys(t *testing.T) {
 	}
 }
 
+// TestWhatLetAUserInMayBeTaken takes back a key and a password, and gives the key to somebody else.
+func TestWhatLetAUserInMayBeTaken(t *testing.T) {
+	folder := t.TempDir()
+	a := loaded(t, folder)
+	one := newKey(t)
+	key := string(one.Marshal())
+	if a.IsStill("alice", "", "") || a.IsStill("alice", key, "") || a.IsStill("", "", "") {
+		t.Fatal("a user of nothing")
+	}
+	_, err := AddKeys(folder, "alice", ssh.MarshalAuthorizedKey(one))
+	must(t, err)
+	must(t, SetPassword(folder, "alice", "correct horse"))
+	hash := a.Hash("alice")
+	if !a.IsStill("alice", key, "") || !a.IsStill("alice", "", hash) || a.IsStill("bob", key, "") || a.IsStill("bob", "", hash) {
+		t.Fatal("a key or a password")
+	}
+	must(t, SetPassword(folder, "alice", "another horse"))
+	if a.IsStill("alice", "", hash) || !a.IsStill("alice", key, "") {
+		t.Fatal("the old password holds, or the key went with it")
+	}
+	must(t, Revoke(folder, "alice", ""))
+	_, err = AddKeys(folder, "bob", ssh.MarshalAuthorizedKey(one))
+	must(t, err)
+	if a.IsStill("alice", key, "") || !a.IsStill("bob", key, "") {
+		t.Fatal("a key is another user's")
+	}
+}
+
 // TestABadFileChangesNothing has a file that somebody edited by hand: what was read before holds, and the operator is told.
 func TestABadFileChangesNothing(t *testing.T) {
 	folder := t.TempDir()

@@ -163,6 +163,19 @@ func bounded(all []Answer) []Answer {
 	return kept
 }
 
+// Drop forgets what a tenant's stream with a token was answered.
+func (k *Kept) Drop(tenant, token string) {
+	k.mutex.Lock()
+	defer k.mutex.Unlock()
+	have := k.all[tenant]
+	for at := range have {
+		if have[at].Token == token {
+			k.all[tenant], k.isChanged = append(append([]Answer(nil), have[:at]...), have[at+1:]...), true
+			return
+		}
+	}
+}
+
 // Of gives the answers that are kept of a tenant, the oldest one first.
 func (k *Kept) Of(tenant string) []Answer {
 	k.mutex.Lock()

@@ -233,10 +233,17 @@ func (p *Process) Send(ctx context.Context, class Class, steps ...frames.Step) (
 	p.wait()
 	if err := p.put(ctx, b); err != nil {
 		p.leave(class)
-		p.unwait()
+		p.forgo()
 		return nil, err
 	}
 	return b, nil
+}
+
+// forgo counts a batch no more that was not sent. The child has answered nothing meanwhile.
+func (p *Process) forgo() {
+	p.mutex.Lock()
+	defer p.mutex.Unlock()
+	p.waiting--
 }
 
 // wait counts a batch that waits for its answers, for Stalled.

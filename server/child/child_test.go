@@ -204,6 +204,9 @@ func TestAnAskerMayLeave(t *testing.T) {
 	if !errors.Is(err, context.DeadlineExceeded) {
 		t.Fatal("a child that stopped takes more and more:", err)
 	}
+	if p.Stalled() < 100*time.Millisecond {
+		t.Fatal("a child that stopped has answered, since an asker has left:", p.Stalled())
+	}
 }
 
 func TestAnIdleChildIsNotStalled(t *testing.T) {

@@ -1,20 +1,21 @@
 // Package daily counts what users take in a day of UTC: the bytes of their pushes and fetches, and the time of the child.
 //
 // The counts are in a file of the server's folder, so that a restart does not forget them. It is written from time to time and at the end;
-// a server that is killed forgets the last seconds. A visitor without a name is counted by its address.
+// a server that is killed forgets the last seconds. A visitor without a name is counted by its network.
 package daily
 
 import (
 	"bytes"
 	"errors"
 	"fmt"
-	"net"
 	"os"
 	"sort"
 	"strconv"
 	"strings"
 	"sync"
 	"time"
+
+	"gitpoold/access"
 )
 
 // Refusals, as users see them.
@@ -105,6 +106,9 @@ func (l *Ledger) Save() {
 	}
 	if err != nil {
 		l.tell("what users took today is not written: %v", err)
+		l.mutex.Lock()
+		l.isChanged = true
+		l.mutex.Unlock()
 	}
 }
 
@@ -188,17 +192,9 @@ func (l *Ledger) Meter(user, address string) *Meter {
 	}
 	who := user
 	if who == "" {
-		who = visitor + host(address)
+		who = visitor + access.Network(address)
 	}
 	return &Meter{l, who, l.most(user)}
-}
-
-func host(address string) string {
-	name, _, err := net.SplitHostPort(address)
-	if err != nil {
-		return address
-	}
-	return name
 }
 
 // Add counts bytes.

@@ -77,9 +77,10 @@ func TestCountsOutliveARestart(t *testing.T) {
 	a := opened(t, path, Amount{Bytes: 100})
 	a.Meter("alice", "").Add(60)
 	a.Meter("alice", "").AddChild(1500 * time.Millisecond)
-	a.Meter("", "[2001:db8::1]:22").Add(7)
+	a.Meter("", "[2001:db8::1]:22").Add(3)
+	a.Meter("", "[2001:db8::2]:22").Add(4)
 	a.Save()
-	if text, _ := os.ReadFile(path); string(text) != a.day+"\n@2001:db8::1 7 0.000\nalice 60 1.500\n" {
+	if text, _ := os.ReadFile(path); string(text) != a.day+"\n@2001:db8:: 7 0.000\nalice 60 1.500\n" {
 		t.Fatalf("%s", text)
 	}
 	b := opened(t, path, Amount{Bytes: 100})
@@ -118,11 +119,19 @@ func TestAFileOfAnotherDayOrForm(t *testing.T) {
 }
 
 func TestADiskThatTakesNothing(t *testing.T) {
-	a := opened(t, filepath.Join(t.TempDir(), "none", "usage"), Amount{Bytes: 100})
+	path := filepath.Join(t.TempDir(), "none", "usage")
+	a := opened(t, path, Amount{Bytes: 100})
 	a.Meter("alice", "").Add(100)
 	a.Save()
 	if a.Meter("alice", "").Err() != ErrBytes || len(a.notes) != 1 {
 		t.Fatal(a.notes)
+	}
+	if err := os.Mkdir(filepath.Dir(path), 0o700); err != nil {
+		t.Fatal(err)
+	}
+	a.Save()
+	if text, err := os.ReadFile(path); err != nil || string(text) != a.day+"\nalice 100 0.000\n" {
+		t.Fatalf("what could not be written is not written later: %q %v", text, err)
 	}
 }
 

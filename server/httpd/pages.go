@@ -13,6 +13,7 @@ import (
 	"time"
 
 	"gitpoold/access"
+	"gitpoold/limits"
 	"gitpoold/pages"
 	"gitpoold/site"
 )
@@ -54,12 +55,18 @@ func (e *exchange) page(place pages.Place) {
 		return
 	}
 	defer leave()
+	_, end := e.Watch(e.r.Context(), user, place.Tenant, access.Read, func(error) { stop(e.r) })
+	defer end()
 	e.visit(v)
 }
 
 // visit lets a user in, or says that there is no such repository.
 func (e *exchange) visit(v pages.Visit) {
 	if v.Place.Kind == pages.Tenants {
+		if err := e.Access.Blocked(v.User, "", access.Read); err != nil {
+			e.send(v.Refusal(http.StatusForbidden, "Blocked", err.Error()))
+			return
+		}
 		if to, wants := v.Query["sign-in"]; wants {
 			e.signIn(v, to[0])
 			return
@@ -83,7 +90,27 @@ func (e *exchange) visit(v pages.Visit) {
 	}
 	v.Repository = t
 	v.CloneHTTP, v.CloneSSH = e.cloneURLs(v.User, v.Place.Tenant)
-	e.send(v.Answer(e.r.Context()))
+	e.sendCounted(v, v.Answer(e.r.Context()))
+}
+
+// sendCounted sends an answer, which counts among those that wait until a user takes them: a file may be large, and its taker slow.
+func (e *exchange) sendCounted(v pages.Visit, a pages.Answer) {
+	who := v.User
+	if who == "" {
+		who = "visitor " + access.Network(e.record.Address)
+	}
+	taken, err := e.Limits.Wait(who, len(a.Body))
+	if err == limits.ErrAnswer {
+		e.send(v.Refusal(http.StatusTooManyRequests, "Too large", err.Error()+"; clone the repository instead."))
+		return
+	}
+	if err != nil {
+		e.w.Header().Set("Retry-After", "1")
+		e.send(v.Refusal(http.StatusTooManyRequests, "Too many answers at once", "Please try again when the others have come."))
+		return
+	}
+	defer taken()
+	e.send(a)
 }
 
 // listed are the tenants that a user may see and that have something.

@@ -361,7 +361,7 @@ func (f *Following) TakeOver(pool Digest, silence time.Duration) error {
 	if err == nil {
 		err = r.putAndWait(conn, at, []queued{taken})
 	}
-	if err = r.awaitReplicas(conn, err); err != nil {
+	if err = r.awaitReplicas(conn, taken.end, err); err != nil {
 		conn.Close()
 		if isOther(err) {
 			return ErrNotAtEnd

@@ -220,7 +220,7 @@ func (r *Redis) readAndBegin(conn redis.Conn, w *walk, pool Digest) error {
 	if err == nil {
 		err = r.putAndWait(conn, w.end, []queued{taken})
 	}
-	if err = r.awaitReplicas(conn, err); err != nil {
+	if err = r.awaitReplicas(conn, taken.end, err); err != nil {
 		return err
 	}
 	r.segments, r.base, r.hasSteps, r.acked, r.appended = w.segments, base, w.hasSteps, taken.end, taken.end

@@ -24,10 +24,12 @@ type BadLog struct {
 	// IsTaken says that the log is as it should be, and that another server has it. NeedsCopy says that it is as it should be, and that
 	// this server, which follows it, has to begin from a newer pool file.
 	IsTaken, NeedsCopy bool
+	// MayHaveLost says of a log that another server has that it begins behind what this server had, so nobody can tell whether it had all of it.
+	MayHaveLost bool
 }
 
-// IsLoss tells whether the log lacks what this server had.
-func (b *BadLog) IsLoss() bool { return !b.IsTaken && !b.NeedsCopy }
+// IsLoss tells whether the log lacks, or may lack, what this server had.
+func (b *BadLog) IsLoss() bool { return !b.NeedsCopy && (!b.IsTaken || b.MayHaveLost) }
 
 func (b *BadLog) Error() string {
 	return fmt.Sprintf("%s: %s; nothing was changed (docs/SERVER.md, \"The journal in Redis\")", b.Log, b.Reason)

@@ -387,6 +387,61 @@ func TestASecondServerTakesTheLogOver(t *testing.T) {
 	isLost(t, second, "another server has taken the log over", true)
 }
 
+// TestAServerIsCutOffWhileAnotherOneSaves has a server that comes back to a log which another one has taken over and trimmed.
+func TestAServerIsCutOffWhileAnotherOneSaves(t *testing.T) {
+	t.Parallel()
+	server := redistest.Start(t)
+	first := created(t, options(t, server))
+	appendAll(t, first, 0, 10)
+	first.line.Lock()
+	second := openedRedis(t, options(t, server), pools[0])
+	if err := second.Begin(pools[1], nil); err != nil {
+		t.Fatal(err)
+	}
+	err := second.Drop()
+	first.line.Unlock()
+	if err != nil {
+		t.Fatal(err)
+	}
+	select {
+	case err := <-first.lost:
+		var bad *BadLog
+		if !errors.As(err, &bad) || !bad.IsTaken || !bad.IsLoss() || !strings.Contains(err.Error(), "another server has taken the log over") {
+			t.Fatal(err)
+		}
+	case <-time.After(20 * time.Second):
+		t.Fatal("the journal has noticed nothing")
+	}
+}
+
+// TestALeaderThatWaitsForReplicasLives has a replica of Redis that is silent while a server waits for it: who follows does not take the log over.
+func TestALeaderThatWaitsForReplicasLives(t *testing.T) {
+	t.Parallel()
+	primary := redistest.Start(t, "--repl-diskless-sync-delay", "0")
+	host, port, _ := strings.Cut(primary.Host(), ":")
+	replica := redistest.Start(t, "--replicaof", host+" "+port)
+	o := options(t, primary)
+	o.Replicas, o.Wait = 1, 30*time.Second
+	j := created(t, o)
+	appendAll(t, j, 0, 3)
+	f := follows(t, options(t, primary))
+	if err := f.takes(j.Number()); err != nil {
+		t.Fatal(err)
+	}
+	replica.Signal(syscall.SIGSTOP)
+	result, most := make(chan error, 1), time.Duration(0)
+	go func() { result <- append1(j, 3) }()
+	for until := time.Now().Add(5 * time.Second); time.Now().Before(until); time.Sleep(50 * time.Millisecond) {
+		if f.Silence() > most {
+			most = f.Silence()
+		}
+	}
+	replica.Signal(syscall.SIGCONT)
+	if err := <-result; err != nil || most > 3*time.Second {
+		t.Fatalf("a server that waits for replicas was silent for %v: %v", most, err)
+	}
+}
+
 // TestAppendsOfTwoServers lets two servers take the log from one another while both append: each told step is there, in order.
 func TestAppendsOfTwoServers(t *testing.T) {
 	t.Parallel()

@@ -31,9 +31,9 @@ local followed = redis.call('EXISTS', KEYS[2])
 redis.call('XTRIM', KEYS[1], 'MINID', ARGV[2 + followed])
 return {tostring(followed)}
 `)
-	// signScript raises the sign of life of the server that writes the log. A Redis that has no memory for it goes without.
+	// signScript raises the sign of life of the server that writes the log. A Redis that has no memory for it goes without, unless it is needed.
 	signScript = redis.NewScript(2, ending+`
-redis.pcall('INCR', KEYS[2])
+if ARGV[2] == 'needed' then redis.call('INCR', KEYS[2]) else redis.pcall('INCR', KEYS[2]) end
 return {}
 `)
 )
@@ -91,34 +91,75 @@ func (r *Redis) putAndWait(conn redis.Conn, behind mark, batch []queued) error {
 	if err != nil {
 		return err
 	}
-	return r.waitForReplicas(conn)
+	return r.waitForReplicas(conn, lastOf(behind, batch), len(batch) > 0)
 }
 
-// waitForReplicas waits until enough replicas have what was appended.
-func (r *Redis) waitForReplicas(conn redis.Conn) error {
+// lastOf is where a log ends that has a batch behind a mark.
+func lastOf(behind mark, batch []queued) mark {
+	if len(batch) == 0 {
+		return behind
+	}
+	return batch[len(batch)-1].end
+}
+
+// waitForReplicas waits until enough replicas have the record in which the log ends. Meanwhile it gives signs of life, for else a server that
+// follows would take the log over. Where another connection has written the record, it gives one first, which then has to be there: later versions of
+// Redis let WAIT wait for what its own connection has written.
+func (r *Redis) waitForReplicas(conn redis.Conn, end mark, hasWritten bool) error {
 	if r.options.Replicas == 0 {
 		return nil
 	}
-	within := r.options.tryWithin()
-	count, err := redis.Int(redis.DoWithTimeout(conn, 2*within, "WAIT", r.options.Replicas, within.Milliseconds()))
-	if err != nil {
-		return fmt.Errorf("%w: %v", errFewReplicas, err)
+	until := time.Now().Add(r.options.tryWithin())
+	for isFirst := true; ; isFirst = false {
+		if !isFirst || !hasWritten {
+			if err := r.sign(conn, end, !hasWritten); err != nil {
+				return lateUnlessEnded(err)
+			}
+		}
+		count, err := r.askReplicas(conn)
+		switch {
+		case err != nil:
+			return lateUnlessEnded(err)
+		case count >= r.options.Replicas:
+			return nil
+		case time.Now().After(until):
+			return fmt.Errorf("%w: %d of %d", errFewReplicas, count, r.options.Replicas)
+		}
 	}
-	if count < r.options.Replicas {
-		return fmt.Errorf("%w: %d of %d", errFewReplicas, count, r.options.Replicas)
+}
+
+// lateUnlessEnded is errFewReplicas, unless the log ends in another record.
+func lateUnlessEnded(err error) error {
+	if errors.As(err, new(*otherEnd)) {
+		return err
 	}
-	return nil
+	return fmt.Errorf("%w: %v", errFewReplicas, err)
+}
+
+// askReplicas gives how many replicas have what this connection has written, as soon as they are enough, and after a while in any case.
+func (r *Redis) askReplicas(conn redis.Conn) (int, error) {
+	return redis.Int(redis.DoWithTimeout(conn, lookEvery+r.options.tryWithin(), "WAIT", r.options.Replicas, lookEvery.Milliseconds()))
+}
+
+// sign gives a sign of life, if the log ends at a mark. One that is needed is an error where Redis has no memory for it.
+func (r *Redis) sign(conn redis.Conn, end mark, isNeeded bool) error {
+	address, how := r.options.Address, ""
+	if isNeeded {
+		how = "needed"
+	}
+	return ended(signScript.Do(conn, address.key, address.alive(), end.chain[:], how))
 }
 
 // awaitReplicas waits longer where a start has found that replicas are late, as long as the connection lasts: so it appends one record
 // and no more.
-func (r *Redis) awaitReplicas(conn redis.Conn, late error) error {
+func (r *Redis) awaitReplicas(conn redis.Conn, end mark, late error) error {
 	if !errors.Is(late, errFewReplicas) {
 		return late
 	}
 	r.options.Tell("the log %v: %v; the start waits for them", r.options.Address, late)
 	for began := time.Now(); errors.Is(late, errFewReplicas) && conn.Err() == nil && time.Since(began) < r.options.startWithin(late); {
-		late = r.waitForReplicas(conn)
+		time.Sleep(time.Second / 20)
+		late = r.waitForReplicas(conn, end, true)
 	}
 	return late
 }
@@ -381,8 +422,7 @@ func (r *Redis) heal() {
 	r.options.Stale()
 }
 
-// fence takes the log over at the record in which it ends, and tells how many of the records are there that were sent. Where it has done so before,
-// and replicas were late, it waits for these alone.
+// fence takes the log over at the record in which it ends, and tells how many of the records are there that were sent.
 func (r *Redis) fence() (end mark, stand int, err error) {
 	r.line.Lock()
 	defer r.line.Unlock()
@@ -391,9 +431,6 @@ func (r *Redis) fence() (end mark, stand int, err error) {
 	}
 	at := r.ends[0]
 	for turn := 0; turn < 3; turn++ {
-		if at.isFence {
-			return at.mark, at.stand, r.unless(r.waitForReplicas(r.conn))
-		}
 		end, err := r.fenceAt(at)
 		var other *otherEnd
 		if !errors.As(err, &other) {
@@ -408,7 +445,11 @@ func (r *Redis) fence() (end mark, stand int, err error) {
 }
 
 // fenceAt takes the log over at one of its possible ends, if it ends there. Its record is another one then, unless it was surely not appended.
+// Where that end is such a record, and replicas were late, it waits for these alone.
 func (r *Redis) fenceAt(at possibleEnd) (end mark, err error) {
+	if at.isFence {
+		return at.mark, r.waitForReplicas(r.conn, at.mark, false)
+	}
 	taken, err := takenOver(at.mark)
 	if err != nil {
 		return mark{}, err
@@ -443,7 +484,7 @@ func (r *Redis) lookAtEnd() {
 	r.line.Lock()
 	err := r.reconnect()
 	if err == nil {
-		err = ended(signScript.Do(r.conn, r.options.Address.key, r.options.Address.alive(), end.chain[:]))
+		err = r.sign(r.conn, end, false)
 		var other *otherEnd
 		if errors.As(err, &other) {
 			err = r.explain(end, other)
@@ -472,6 +513,12 @@ func (r *Redis) explain(at mark, other *otherEnd) error {
 	if len(found) == 0 {
 		last := strings.TrimSuffix(other.id, "-0")
 		return address.bad("the log ends at record %s, and this server had come to record %d: the log lost its end", last, at.number)
+	}
+	if first, err := firstOf(r.conn, address); err == nil && first > at.number {
+		// Only a server that has the log removes the records at its beginning.
+		reason := fmt.Sprintf("another server has taken the log over%s and saved: the log begins at record %d, and this server had come to record %d",
+			whoOf(found), first, at.number)
+		return &BadLog{Log: address.String(), Reason: reason, IsTaken: true, MayHaveLost: true}
 	}
 	if _, record, err := entryOf(found[0]); err != nil || !strings.HasSuffix(string(record), string(at.chain[:])) {
 		return address.bad("record %d is another one than this server had: the log lost records and went on", at.number)

@@ -21,7 +21,7 @@ func (l *Limits) Lines(user, address string) *Held {
 	return &Held{limits: l, who: whoIs(user, address), of: l.lines, most: func(v Values) int64 { return v.LineBytes }, refusal: ErrLines}
 }
 
-// Spool counts the temporary file of a push that begins.
+// Spool counts the temporary file of a push that begins, and the list of what its pack has.
 func (l *Limits) Spool(user, address string) *Held {
 	return &Held{limits: l, who: whoIs(user, address), of: l.spools, most: func(v Values) int64 { return v.SpoolBytes }, refusal: ErrSpools}
 }

@@ -12,6 +12,7 @@ import (
 	"sync"
 	"time"
 
+	"gitpoold/access"
 	"gitpoold/daily"
 	"gitpoold/lists"
 )
@@ -81,17 +82,9 @@ func (l *Limits) Enter(user, address string) (leave func(), err error) {
 // whoIs is under which name a user is counted, or a visitor.
 func whoIs(user, address string) string {
 	if user == "" {
-		return "visitor " + host(address)
+		return "visitor " + access.Network(address)
 	}
 	return "user " + user
-}
-
-func host(address string) string {
-	name, _, err := net.SplitHostPort(address)
-	if err != nil {
-		return address
-	}
-	return name
 }
 
 func (l *Limits) take(what string, most int) bool {
@@ -164,7 +157,7 @@ func (b *bounded) Accept() (net.Conn, error) {
 		if err != nil {
 			return nil, err
 		}
-		leave, err := b.limits.connect(b.all, host(c.RemoteAddr().String()))
+		leave, err := b.limits.connect(b.all, access.Network(c.RemoteAddr().String()))
 		if err == nil {
 			return &connection{Conn: c, limits: b.limits, reads: b.reads, leave: leave}, nil
 		}

@@ -246,6 +246,27 @@ func TestRequestsOfAUser(t *testing.T) {
 	}
 }
 
+// TestANetworkIsOneVisitor has visitors of addresses of IPv6: all of a /64 count as one.
+func TestANetworkIsOneVisitor(t *testing.T) {
+	l, _ := loaded(t, "requests-by-user 1\n")
+	leave, err := l.Enter("", "[2001:db8::1]:1")
+	if err != nil {
+		t.Fatal(err)
+	}
+	if _, err := l.Enter("", "[2001:db8::2]:1"); err == nil {
+		t.Fatal("a visitor has another count by another address of the same network")
+	}
+	for _, other := range []string{"[2001:db8:0:1::1]:1", "192.0.2.1:1", "192.0.2.2:1"} {
+		if _, err := l.Enter("", other); err != nil {
+			t.Fatal(other, err)
+		}
+	}
+	leave()
+	if _, err := l.Enter("", "[2001:db8::2]:1"); err != nil {
+		t.Fatal(err)
+	}
+}
+
 func TestParseBytes(t *testing.T) {
 	for word, want := range map[string]int64{"0": 0, "17": 17, "1K": 1024, "2M": 2 << 20, "3G": 3 << 30, "1T": 1 << 40} {
 		if got, err := ParseBytes(word); got != want || err != nil {

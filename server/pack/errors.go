@@ -12,7 +12,8 @@ type Limits struct {
 	Objects       int64
 	DeltaDepth    int
 	WaitingDeltas int // that wait at once for a base that comes later
-	// MayGrow is asked before so many bytes more are written to the temporary file. An error of it ends the pack; nil means no such question.
+	// MayGrow is asked before so many bytes more are written to the temporary file, or taken by the entries of the pack. An error of it ends
+	// the pack; nil means no such question.
 	MayGrow func(bytes int64) error
 }
 

@@ -6,6 +6,7 @@ import (
 	"context"
 	"crypto/sha1"
 	"encoding/binary"
+	"errors"
 	"os"
 	"os/exec"
 	"runtime"
@@ -334,6 +335,59 @@ func TestWorkIsBounded(t *testing.T) {
 		t.Fatal(err)
 	}
 	if _, err := read(t, turns.done(), noBase{}, limits); err == nil || !strings.Contains(err.Error(), "more work") {
+		t.Fatal(err)
+	}
+}
+
+// manyEntries makes packs of so many entries: empty blobs, the same blob again and again, and deltas that wait for one base.
+func manyEntries(count int) map[string][]byte {
+	empty, same, waiting := newMaker(uint32(count)), newMaker(uint32(count)), newMaker(uint32(count))
+	base := NameOf(tenants.Blob, []byte("a base"))
+	for at := 0; at < count; at++ {
+		empty.entry(3, 0, nil, nil)
+		same.entry(3, 4, nil, []byte("same"))
+		waiting.entry(7, 0, base[:], nil)
+	}
+	return map[string][]byte{"empty blobs": empty.done(), "duplicates": same.done(), "deltas that wait": waiting.done()}
+}
+
+// TestEntriesAreAskedFor has packs that put next to nothing into the temporary file, and take memory for each entry.
+func TestEntriesAreAskedFor(t *testing.T) {
+	full := errors.New("full")
+	const step = entriesAsked * entryCost
+	for what, pack := range manyEntries(3*entriesAsked + 1) {
+		for _, room := range []int64{4 * step, 3 * step, 3*step - 1, step, 0} {
+			asked := int64(0)
+			limits := Usual
+			limits.MayGrow = func(bytes int64) error {
+				if asked += bytes; asked > room {
+					return full
+				}
+				return nil
+			}
+			q, err := read(t, pack, noBase{}, limits)
+			if isRefused := err == full; isRefused != (room < 3*step) {
+				t.Errorf("%s with room for %d bytes: %v", what, room, err)
+			}
+			if most := (room/step + 1) * entriesAsked; err == full && int64(q.Len()) > most {
+				t.Errorf("%s with room for %d bytes: %d entries", what, room, q.Len())
+			}
+			if want := int64(3 * step); room >= want && asked != want {
+				t.Errorf("%s: %d bytes were asked for, and not %d", what, asked, want)
+			}
+		}
+	}
+}
+
+// TestSmallPacksAreNotAskedFor has no room at all, and a pack of less than 64 KiB with as many entries as it can have.
+func TestSmallPacksAreNotAskedFor(t *testing.T) {
+	const smallest = "\x30\x78\x9c\x03\x00\x00\x00\x00\x01" // an empty blob
+	count := (1<<16 - 32) / len(smallest)
+	limits := Usual
+	limits.MayGrow = func(int64) error { return errors.New("full") }
+	pack := newMaker(uint32(count))
+	pack.WriteString(strings.Repeat(smallest, count))
+	if q, err := read(t, pack.done(), noBase{}, limits); err != nil || q.Len() != count {
 		t.Fatal(err)
 	}
 }

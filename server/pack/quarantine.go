@@ -130,8 +130,24 @@ func (q *Quarantine) keep(it entry, contents []byte) (err error) {
 		it.isOwn = true
 		q.own[it.name] = int32(len(q.entries))
 	}
+	return q.enter(it)
+}
+
+const (
+	// entriesAsked is after how many entries it is asked whether there may be more. A pack below 64 KiB has fewer, since none takes less than
+	// 9 bytes.
+	entriesAsked = 1 << 13
+	// entryCost is how many bytes of memory an entry takes at most: twice its own while the list of entries moves to a larger place.
+	entryCost = 128
+)
+
+// enter appends an entry. Entries count as bytes of the temporary file do: duplicates and empty objects take memory and put nothing there.
+func (q *Quarantine) enter(it entry) error {
 	q.entries = append(q.entries, it)
-	return nil
+	if q.limits.MayGrow == nil || len(q.entries)%entriesAsked > 0 {
+		return nil
+	}
+	return q.limits.MayGrow(entriesAsked * entryCost)
 }
 
 // NameOf gives the name of an object.

@@ -248,8 +248,9 @@ func (r *reading) wait(it entry, delta []byte) (at int, err error) {
 		return 0, Refused{"the pack has too many deltas before their bases"}
 	}
 	it.size = int64(len(delta))
-	it.at, err = r.put(delta)
-	r.entries = append(r.entries, it)
+	if it.at, err = r.put(delta); err == nil {
+		err = r.enter(it)
+	}
 	return len(r.entries) - 1, err
 }
 
@@ -323,7 +324,9 @@ func (r *reading) tenantBase(ctx context.Context) (tenants.Name, int, error) {
 			return last, 0, err
 		}
 		at, err := r.put(o.Contents)
-		r.entries = append(r.entries, entry{name: name, kind: byte(o.Kind), size: int64(len(o.Contents)), at: at, start: -1})
+		if err == nil {
+			err = r.enter(entry{name: name, kind: byte(o.Kind), size: int64(len(o.Contents)), at: at, start: -1})
+		}
 		return last, len(r.entries) - 1, err
 	}
 	return last, 0, Refused{"the pack has a delta against " + last.String() + ", which is not here"}

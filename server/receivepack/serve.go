@@ -23,12 +23,16 @@ type Server struct {
 	AllowsSuspect bool // takes objects that receive.fsckObjects of git-config(1) refuses
 	// Lines counts the bytes of refs and options while a push has them; nil counts nothing.
 	Lines pktline.Budget
+	// Lasts is told what a push has changed once that lasts, before another push of the tenant begins; it may be nil.
+	Lasts func(Result)
 }
 
-// Result is what a push changed, and the options that it was given.
+// Result is what a push changed, and the options that it was given. Failed is why all of its refs were refused after its objects were read, where
+// the client was told a sentence about it.
 type Result struct {
 	Changes []Change
 	Options []string
+	Failed  error
 }
 
 // Serve answers one push after Advertise. Changes of the result are durable. An error was told to the client where its protocol
@@ -57,7 +61,7 @@ func (s Server) Serve(ctx context.Context, t tenants.Tenant, in *bufio.Reader, o
 		_, _ = io.CopyN(io.Discard, in, mostDrained)
 	}
 	failed := p.report(out, whole)
-	result := Result{Changes: p.good(), Options: q.options}
+	result := Result{Changes: p.good(), Options: q.options, Failed: p.failed}
 	if whole != nil {
 		result.Changes = nil
 	} else {
@@ -85,6 +89,8 @@ type push struct {
 	refs  tenants.Refs                  // as they are to be
 	was   tenants.Refs
 	kinds map[tenants.Name]tenants.Kind // of what refs are to hold
+
+	failed error // why all refs were refused
 }
 
 // carryOut reads the pack, judges all of it, and feeds it. The error is about the push as a whole.
@@ -105,12 +111,21 @@ func (p *push) carryOut(ctx context.Context, in io.Reader) error {
 	if err := p.examine(ctx); err != nil {
 		return err
 	}
-	err = p.t.Push(ctx, func(refs tenants.Refs) error { return p.judge(ctx, refs) },
-		func(s *tenants.Stream) error { return p.feed(ctx, s) })
+	err = p.t.Push(ctx, func(refs tenants.Refs) error { return p.judge(ctx, refs) }, func(s *tenants.Stream) error {
+		s.WhenItLasts(p.tell)
+		return p.feed(ctx, s)
+	})
 	if err != nil && err != errNothing {
 		p.refuseAll(sentence(err))
+		p.failed = err
 	}
 	return nil
+}
+
+func (p *push) tell() {
+	if p.Lasts != nil {
+		p.Lasts(Result{Changes: p.good(), Options: p.options})
+	}
 }
 
 // limits gives what the pack may have: a tenant with a quota takes no more than it has room for.

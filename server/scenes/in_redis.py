@@ -260,6 +260,7 @@ def a_full_redis_is_told(room: ServerRoom) -> None:
         for _ in range(2):
             room.fails(site, "push", "-q", "pool", "main", says="the server cannot write its journal; nothing of this push was kept")
             assert room.tenant_refs() == told
+        assert 'a push by \\"alice\\" to acme/site failed: ' in room.logged()
         it.redis.ask("CONFIG", "SET", "maxmemory", "0")
         pushed_soon(room, site)
         resource.prlimit(it.redis.process.pid, resource.RLIMIT_FSIZE, (os.path.getsize(it.redis.aof()) + 50, resource.RLIM_INFINITY))

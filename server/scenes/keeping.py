@@ -161,7 +161,7 @@ def a_full_disk_refuses_pushes_and_reading_goes_on(room: ServerRoom) -> None:
     room.git(site, "push", "-q", "pool", "main")
     kill(room, "both")
     room.same(site)
-    assert "the journal cannot be written: " in room.logged()
+    assert "the journal cannot be written: " in room.logged() and 'a push by \\"alice\\" to acme/site failed: ' in room.logged()
 
 
 def fill(room: ServerRoom, site: str, size: int) -> Dict[str, str]:

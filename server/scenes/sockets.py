@@ -34,6 +34,45 @@ def the_remote_helper_asks_the_server(room: ServerRoom) -> None:
     assert not [it for it in os.listdir(room.served) if it.startswith(".gitpool")]
 
 
+def pushes_meanwhile(room: ServerRoom, site: str, ref: str) -> None:
+    """Lets the next push of a worktree wait, after the refs are listed, until another worktree has pushed over http."""
+    hook = room.path(site, ".git", "hooks", "pre-push")
+    with open(hook, "w", encoding="utf-8") as file:
+        file.write(f"#!/bin/sh\nunset GIT_DIR\nexec git -C {room.path('copy')} push -q {room.url()} {ref}\n")
+    os.chmod(hook, 0o755)
+
+
+@over_http
+def the_remote_helper_sees_another_push(room: ServerRoom) -> None:
+    """Another user pushes between the refs that the helper lists and its own push. What that user was told to be there stays."""
+    site = room.pushed()
+    room.git("", "clone", "-q", room.url(), "copy")
+    old = room.name(site, "main")
+    told = room.commit("copy", "Meanwhile", {"meanwhile": "m\n"})
+    room.commit(site, "Later", {"later": "l\n"})
+    pushes_meanwhile(room, site, "main")
+    says = "refs/heads/main was changed by another push; fetch first"
+    room.fails(site, "push", f"--force-with-lease=main:{old}", of_pool(room), "main", "main:refs/heads/x", says=says)
+    assert room.tenant_refs()["refs/heads/main"] == told and "refs/heads/x" not in room.tenant_refs()
+    pushes_meanwhile(room, site, "+main:refs/tags/light")
+    says = "refs/tags/light was changed by another push; fetch first"
+    room.fails(site, "push", of_pool(room), ":light", says=says)
+    assert room.tenant_refs()["refs/tags/light"] == told
+    # A ref that another push made is no reason to refuse others, unless git could not have them beside it.
+    pushes_meanwhile(room, site, "main:refs/heads/y")
+    room.git(site, "push", "-q", of_pool(room), "main:refs/heads/z")
+    pushes_meanwhile(room, site, "main:refs/heads/a/b")
+    room.fails(site, "push", of_pool(room), "main:refs/heads/a", says="refs/heads/a/b is a ref, and git cannot have both")
+    pushes_meanwhile(room, site, "+main:refs/heads/z")
+    ssh = forced(room, "--pool", room.pool, "acme/site")
+    room.fails(site, "push", "gitpool::ssh://host", ":z", says="refs/heads/z was changed by another push", GIT_SSH_COMMAND=ssh)
+    assert room.tenant_refs()["refs/heads/z"] == told
+    os.unlink(room.path(site, ".git", "hooks", "pre-push"))
+    room.git(site, "push", "-q", "-f", of_pool(room), "main:refs/heads/z")
+    refs = room.tenant_refs()
+    assert refs["refs/heads/y"] == told and refs["refs/heads/z"] == room.name(site, "main") and "refs/heads/a" not in refs, refs
+
+
 @over_http
 def clients_ask_the_server(room: ServerRoom) -> None:
     site = room.pushed()

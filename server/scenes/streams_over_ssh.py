@@ -1,6 +1,7 @@
 """Scenes of streams, questions and frames over ssh, of tokens under kills, and of blocks."""
 from __future__ import annotations
 
+import contextlib
 import os
 import random
 import signal
@@ -21,6 +22,7 @@ from strangers import by_ssh, new_key
 from gitpool import Fault, Kind, Service, Step
 
 COMMIT = b"commit refs/heads/main\ncommitter a <a@b> 1 +0000\ndata 1\nx\n"
+LARGE = 30_000_000
 
 
 def said(room: ServerRoom, command: str, data: bytes = b"", status: int = 0) -> bytes:
@@ -93,7 +95,8 @@ def clients_reach_a_server_elsewhere(room: ServerRoom) -> None:
         assert says in room.client("gitpool-import", "-", "--pool", address(room, "acme/bad"), data=bad, status=1).stderr
     for words in (("--dry-run",), ("other",), ("acme/site", "--all", "x")):
         room.client("gitpool-import", "-", *words, "--pool", address(room, "acme/site"), status=2)
-    os.environ["GIT_SSH_COMMAND"] = room.environment["GIT_SSH_COMMAND"]
+    # git takes an assignment before the command too.
+    os.environ["GIT_SSH_COMMAND"] = "A=1 " + room.environment["GIT_SSH_COMMAND"]
     with Service(address(room, "acme/site")) as service:
         assert service.is_served and service.is_remote and len(service.refs("acme/site")) == 3
         for step, number in ((Step(Kind.ASK, b"acme/bad", b"refs"), 32), (Step(Kind.SIZES), 50), (Step(Kind.REMOVE, b"acme/site"), 50)):
@@ -111,9 +114,15 @@ def clients_reach_a_server_elsewhere(room: ServerRoom) -> None:
 def blocks_reach_every_way_in(room: ServerRoom) -> None:
     """A blocked user is refused everything, and a blocked tenant pushes and streams; after a restart too, and at once for what is open."""
     site = room.pushed()
-    held = open_push(room)
+    room.commit(site, "Large", {"large": "x" * LARGE})
+    room.git(site, "push", "-q", "pool", "main")
+    held, taken = open_push(room), open_page(room, "/acme/site/-/raw/main:large")
+    assert taken.recv(1)
     room.serverd("block", room.served, "user", "alice", "unpaid")
     cut_within_a_second(held)
+    time.sleep(1)
+    with taken:
+        assert bytes_of(taken) < LARGE, "a page is sent to its end to a user who is blocked"
     assert room.stop() == 0
     room.start()
     for what in (("ls-remote", room.url()), ("ls-remote", f"ssh://alice@{room.ssh[0]}:{room.ssh[1]}/acme/site")):
@@ -121,7 +130,8 @@ def blocks_reach_every_way_in(room: ServerRoom) -> None:
     assert refused(room, "acme/site", "alice") == (403, "this user is blocked: unpaid (fault 25)\n")
     page = room.talk(b"GET /acme/site HTTP/1.0\r\n" + room.basic() + b"\r\n")
     assert b" 403 " in page and b"unpaid" in page, page
-    assert b"acme/site" not in room.talk(b"GET / HTTP/1.0\r\n" + room.basic() + b"\r\n")
+    page = room.talk(b"GET / HTTP/1.0\r\n" + room.basic() + b"\r\n")
+    assert b" 403 " in page and b"acme/site" not in page, page
     room.git("", "ls-remote", room.http_url("/acme/site.git", "bob"))
     assert room.serverd("block", room.served) == b"user alice unpaid\n"
     room.serverd("unblock", room.served, "user", "alice")
@@ -134,6 +144,23 @@ def blocks_reach_every_way_in(room: ServerRoom) -> None:
     room.git(site, "push", "-q", room.url("acme/other"), "main")
     room.serverd("unblock", room.served, "tenant", "acme/site")
     room.git(site, "push", "-q", room.url(), "main:refs/heads/more")
+
+
+def open_page(room: ServerRoom, path: str) -> socket.socket:
+    """A page that is asked for, and of which nothing is taken yet."""
+    peer = room.socket()
+    peer.setsockopt(socket.SOL_SOCKET, socket.SO_RCVBUF, 1 << 16)
+    peer.sendall(b"GET " + path.encode() + b" HTTP/1.0\r\n" + room.basic() + b"\r\n")
+    return peer
+
+
+def bytes_of(peer: socket.socket) -> int:
+    """How many bytes come until the connection ends."""
+    count = 0
+    with contextlib.suppress(ConnectionResetError):
+        for part in iter(lambda: peer.recv(1 << 16), b""):
+            count += len(part)
+    return count
 
 
 def open_push(room: ServerRoom) -> socket.socket:

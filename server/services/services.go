@@ -86,8 +86,10 @@ func (u Use) Serve(ctx context.Context, isStateless bool) error {
 	most := pack.Usual
 	most.MayGrow = u.mayGrow(spool)
 	most.PackBytes = u.Site.Limits.Get().RequestBytes
-	result, err := receivepack.Server{Folder: u.Site.Work, Limits: most, Lines: held}.Serve(ctx, u.Tenant, in, u.Out)
-	u.tell(result)
+	result, err := receivepack.Server{Folder: u.Site.Work, Limits: most, Lines: held, Lasts: u.tell}.Serve(ctx, u.Tenant, in, u.Out)
+	if result.Failed != nil {
+		u.Site.Log.Printf("a push by %q to %s failed: %v", u.User, u.Tenant.Name(), result.Failed)
+	}
 	return err
 }
 
@@ -109,7 +111,8 @@ func (u Use) mayGoOn() error {
 	return nil
 }
 
-// mayGrow gives what lets the temporary file of a push grow: as far as its user's pushes may have such files, and the journal keeps its room on the disk.
+// mayGrow gives what lets the temporary file of a push, and the list of what its pack has, grow: as far as its user's pushes may have them, and the
+// journal keeps its room on the disk.
 func (u Use) mayGrow(spool *limits.Held) func(bytes int64) error {
 	return func(bytes int64) error {
 		err := u.Site.Limits.MayGrow(u.Site.Work)

@@ -161,12 +161,17 @@ func (s *Set) release(tenant string, arrived chan struct{}) {
 
 // settle removes a tenant where the table says that it is not, if a move of it is not at its end.
 func (s *Set) settle(tenant string) error {
-	if s.table == nil {
+	if s.table == nil || s.table.placeOf(tenant).step == 0 {
 		return nil
 	}
+	if !s.table.isReady() {
+		// The log may say that the tenant is where it would be removed.
+		return journal.ErrAway
+	}
 	it := s.table.placeOf(tenant)
-	if it.step == 0 {
-		return nil
+	if it.step == journal.Moved && !s.stores[it.shard-1].Has(tenant) && s.stores[it.other-1].Has(tenant) {
+		s.config.Store.Tell("%s is in shard %d alone, and the table of places said that it was moved", tenant, it.other)
+		return s.table.note(frames.Step{Kind: journal.Placed, Tenant: tenant, Body: bodyOf(it.other)})
 	}
 	if it.step == journal.Moving && !s.stores[it.shard-1].Has(tenant) && s.stores[it.other-1].Has(tenant) {
 		// The table has lost that the tenant was moved, and its old shard has removed it already.
@@ -214,7 +219,7 @@ func (s *Set) settleSoon(tenant string) {
 
 // resolve lets a tenant go of which the table did not say where it is, once the log of the table has been read again.
 func (s *Set) resolve(tenant string, arrived chan struct{}) {
-	for s.table.journal.IsBroken() {
+	for !s.table.isReady() {
 		select {
 		case <-s.stopping:
 			return
@@ -226,11 +231,15 @@ func (s *Set) resolve(tenant string, arrived chan struct{}) {
 	s.release(tenant, arrived)
 }
 
-// readAgain reads the table again after its log was away.
+// readAgain reads the table again after its log was away, until that goes well.
 func (s *Set) readAgain(t *table) {
-	if err := t.read(); err != nil {
+	for err := t.read(); err != nil; err = t.read() {
 		s.config.Store.Tell("the table of places cannot be read: %v", err)
-		return
+		select {
+		case <-s.stopping:
+			return
+		case <-time.After(settleEvery):
+		}
 	}
 	for _, tenant := range t.pending() {
 		s.settleApart(tenant)

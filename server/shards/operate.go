@@ -53,7 +53,13 @@ func (s *Set) Remove(ctx context.Context, tenant string) error {
 
 // Compact removes the objects of a tenant that its refs do not reach, as the store of its shard does.
 func (s *Set) Compact(ctx context.Context, tenant string) error {
-	return s.operate(ctx, func() error { return s.storeOf(tenant).Compact(ctx, tenant) })
+	return s.operate(ctx, func() error {
+		// Where a move has not ended, what is compacted may not be what the tenant is to have.
+		if err := s.settle(tenant); err != nil {
+			return err
+		}
+		return s.storeOf(tenant).Compact(ctx, tenant)
+	})
 }
 
 // Copy copies a tenant, as it is at its last checkpoint, to an empty one, which comes to the same shard. It may be Refused.

@@ -34,8 +34,10 @@ type place struct {
 type table struct {
 	journal journal.Journal
 	count   int
-	// writers is held by each who writes a record until the table has it too, and locked while the log is renewed.
+	// writers is held by each who writes a record until the table has it too, and locked while the log is renewed or read.
 	writers sync.RWMutex
+	// isUnread tells that the log was away and could not be read since. Then the table is as it was before, and takes no records.
+	isUnread bool
 	// following is the journal where another server writes it, and `turn` is held by whoever takes its records; else it is nil.
 	following *journal.Following
 	turn      sync.Mutex
@@ -104,21 +106,40 @@ func (s *Set) openTableLog(t *table) (journal.Journal, error) {
 	return t.following, err
 }
 
-// read reads the table from its log. Who waits for a record that the log has lost is told so first: other records may get the same numbers.
+// read reads the table from its log. On an error it is as it was. Who waits for a record that the log has lost is told so first: other records may
+// get the same numbers.
 func (t *table) read() error {
 	t.writers.Lock()
 	defer t.writers.Unlock()
-	t.mutex.Lock()
-	defer t.mutex.Unlock()
+	t.isUnread = true
 	t.journal.Resume()
-	t.places, t.tenants = map[string]place{}, make([]int, t.count)
-	if err := t.journal.Records(journal.Digest{}, t.take); err != nil {
+	again := &table{count: t.count, places: map[string]place{}, tenants: make([]int, t.count)}
+	if err := t.journal.Records(journal.Digest{}, again.take); err != nil {
 		return err
 	}
+	t.isUnread = false
+	t.mutex.Lock()
+	defer t.mutex.Unlock()
+	t.places, t.tenants = again.places, again.tenants
 	if t.following != nil {
 		t.following.Arrive(t.following.Number())
 	}
 	return nil
+}
+
+// isReady tells whether the table has what its log has, and takes records.
+func (t *table) isReady() bool {
+	t.writers.RLock()
+	defer t.writers.RUnlock()
+	return !t.isUnread && !t.journal.IsBroken()
+}
+
+// append appends records to the log. The writers' lock is held.
+func (t *table) append(steps ...frames.Step) (number uint64, err error) {
+	if t.isUnread {
+		return 0, journal.ErrAway
+	}
+	return t.journal.Append(steps...)
 }
 
 var errPlace = errors.New("a record of the table of places names a shard that there is not")
@@ -208,6 +229,9 @@ func (t *table) pending() (tenants []string) {
 // place gives the shard of a tenant. One that has none gets that which `choose` names, by the numbers of tenants of all shards; the place is in
 // the log and synced when place returns it.
 func (t *table) place(tenant string, choose func(tenants []int) int) (int, error) {
+	if it := t.placeOf(tenant); it.shard > 0 && it.number == 0 {
+		return it.shard, nil
+	}
 	t.writers.RLock()
 	defer t.writers.RUnlock()
 	t.mutex.Lock()
@@ -215,7 +239,7 @@ func (t *table) place(tenant string, choose func(tenants []int) int) (int, error
 	if it.shard == 0 {
 		it.shard = choose(t.tenants)
 		var err error
-		if it.number, err = t.journal.Append(frames.Step{Kind: journal.Placed, Tenant: tenant, Body: bodyOf(it.shard)}); err != nil {
+		if it.number, err = t.append(frames.Step{Kind: journal.Placed, Tenant: tenant, Body: bodyOf(it.shard)}); err != nil {
 			t.mutex.Unlock()
 			return 0, err
 		}
@@ -262,7 +286,7 @@ func (t *table) putAll(steps []frames.Step) error {
 		if end > len(steps) {
 			end = len(steps)
 		}
-		number, err := t.journal.Append(steps[at:end]...)
+		number, err := t.append(steps[at:end]...)
 		if err != nil {
 			return err
 		}
@@ -285,7 +309,7 @@ func (t *table) putAll(steps []frames.Step) error {
 func (t *table) note(step frames.Step) error {
 	t.writers.RLock()
 	defer t.writers.RUnlock()
-	number, err := t.journal.Append(step)
+	number, err := t.append(step)
 	if err == nil {
 		err = t.journal.Sync(number)
 	}

@@ -341,6 +341,104 @@ func TestATableIsReadAgainAfterItsWriters(t *testing.T) {
 	<-read
 }
 
+// unread is a journal that cannot be read so many times.
+type unread struct {
+	journal.Journal
+	left int
+}
+
+func (u *unread) Records(pool journal.Digest, take func(journal.Record) error) error {
+	if u.left--; u.left >= 0 {
+		return journal.ErrUnread
+	}
+	return u.Journal.Records(pool, take)
+}
+
+// TestATableThatCannotBeReadStays has a table whose log is away once more when it is to be read again: all tenants are where they were.
+func TestATableThatCannotBeReadStays(t *testing.T) {
+	s := opened(t, inFiles(t, 2))
+	defer s.Close(background)
+	must(t, push(s, "a", "m0"))
+	must(t, push(s, "b", "m0"))
+	log := &unread{Journal: s.table.journal, left: 1}
+	s.table.journal = log
+	defer func() { s.table.journal = log.Journal }()
+	was := s.ShardOf("a") + 10*s.ShardOf("b")
+	if err := s.table.read(); err != journal.ErrUnread {
+		t.Fatal(err)
+	}
+	if is := s.ShardOf("a") + 10*s.ShardOf("b"); is != was || s.table.isReady() {
+		t.Fatal("the table has other places, or takes records:", is)
+	}
+	if err := push(s, "c", "m0"); !errors.Is(err, journal.ErrAway) {
+		t.Fatal("a tenant has a place in a table that was not read:", err)
+	}
+	must(t, push(s, "b", "m1"))
+	log.left = 1
+	s.readAgain(s.table)
+	if is := s.ShardOf("a") + 10*s.ShardOf("b"); is != was || !s.table.isReady() {
+		t.Fatal("the table is not read again:", is)
+	}
+	must(t, push(s, "c", "m0"))
+	hasMessages(t, s, "b", "m1", "m0")
+}
+
+// unsure is a journal that has a record by which a tenant was moved, and does not say so.
+type unsure struct {
+	journal.Journal
+	isMoved, isBroken atomic.Bool
+}
+
+func (u *unsure) Append(steps ...frames.Step) (uint64, error) {
+	u.isMoved.Store(steps[0].Kind == journal.Moved)
+	return u.Journal.Append(steps...)
+}
+
+func (u *unsure) Sync(number uint64) error {
+	err := u.Journal.Sync(number)
+	if err == nil && u.isMoved.Load() {
+		u.isBroken.Store(true)
+		return journal.ErrUnsure
+	}
+	return err
+}
+
+func (u *unsure) IsBroken() bool { return u.isBroken.Load() || u.Journal.IsBroken() }
+
+func (u *unsure) Resume() {
+	u.isBroken.Store(false)
+	u.Journal.Resume()
+}
+
+// TestATenantOfUnknownPlaceStays has a move of which nobody knows whether the table has it. Until that is known, the tenant is removed nowhere.
+func TestATenantOfUnknownPlaceStays(t *testing.T) {
+	s := opened(t, inFiles(t, 2))
+	defer s.Close(background)
+	must(t, push(s, "a", "m0"))
+	log := &unsure{Journal: s.table.journal}
+	s.table.journal = log
+	from := s.ShardOf("a")
+	if err := s.Move(background, "a", 3-from); !errors.Is(err, journal.ErrUnsure) {
+		t.Fatal(err)
+	}
+	for _, err := range []error{s.Remove(background, "a"), s.Compact(background, "a"), s.settle("a")} {
+		if !errors.Is(err, journal.ErrAway) {
+			t.Fatal("a tenant is changed of which nobody knows where it is:", err)
+		}
+	}
+	s.readAgain(s.table)
+	for until := time.Now().Add(20 * time.Second); len(s.table.pending()) > 0; time.Sleep(10 * time.Millisecond) {
+		if time.Now().After(until) {
+			t.Fatal("the move is not settled")
+		}
+	}
+	if s.ShardOf("a") != 3-from {
+		t.Fatal("the tenant was not moved")
+	}
+	hasMessages(t, s, "a", "m0")
+	must(t, push(s, "a", "m1"))
+}
+
 // TestAShardThatIsMissingIsTold has folders of shards that are gone, as where a disk is not mounted: neither a start nor an init takes what is left
 // for all.
 func TestAShardThatIsMissingIsTold(t *testing.T) {

@@ -37,34 +37,51 @@ const (
 	memory = 5
 )
 
-// serve takes requests up to the one for a command, and carries it out.
-func (s *session) serve(ctx context.Context, requests <-chan *ssh.Request) {
+// serve takes requests up to the one for a command, and carries it out. It tells whether the connection is to end too, unless another session of it
+// is at work: a client that has not said in time what it wants may not heed that its channel is closed, and one that is no longer let in by what it
+// showed has to show something else.
+func (s *session) serve(ctx context.Context, requests <-chan *ssh.Request) (ends bool) {
 	defer s.channel.Close()
-	timer := time.AfterFunc(s.Limits.Get().Handshake, func() { s.channel.Close() })
-	defer timer.Stop()
-	for request := range requests {
-		switch request.Type {
-		case "env":
-			reply(request, s.setEnvironment(request.Payload))
-		case "exec":
-			timer.Stop()
-			reply(request, true)
+	late := time.NewTimer(s.Limits.Get().Handshake)
+	defer late.Stop()
+	for {
+		select {
+		case <-late.C:
 			go ssh.DiscardRequests(requests)
-			status := s.run(ctx, request.Payload)
-			s.exit(status)
-			if status != ended {
-				s.awaitEnd()
+			return true
+		case request, isOpen := <-requests:
+			switch {
+			case !isOpen:
+				return false
+			case request.Type == "exec" || request.Type == "shell":
+				// Requests that nobody takes hold up all that comes over the connection, and its end.
+				go ssh.DiscardRequests(requests)
+				return s.carryOut(ctx, request)
 			}
-			return
-		case "shell":
-			reply(request, true)
-			fmt.Fprintf(s.channel.Stderr(), "Hello %s. This server speaks git, takes import, ask and frames, and has no shell.\r\n", s.user)
-			s.exit(failed)
-			return
-		default:
-			reply(request, false)
+			reply(request, request.Type == "env" && s.setEnvironment(request.Payload))
 		}
 	}
+}
+
+// carryOut carries out a command, or greets a user who wants a shell, and sends the status.
+func (s *session) carryOut(ctx context.Context, request *ssh.Request) (ends bool) {
+	shown := s.conn.Permissions.Extensions
+	isStill := s.Access.IsStill(s.user, shown[keyKey], shown[hashKey])
+	reply(request, true)
+	status := uint32(failed)
+	switch {
+	case !isStill:
+		s.say("the key or the password of this connection is no longer valid; connect again")
+	case request.Type == "shell":
+		fmt.Fprintf(s.terminal(), "Hello %s. This server speaks git, takes import, ask and frames, and has no shell.\r\n", s.user)
+	default:
+		status = s.run(ctx, request.Payload)
+	}
+	s.exit(status)
+	if status != ended && request.Type != "shell" {
+		s.awaitEnd()
+	}
+	return !isStill
 }
 
 func reply(request *ssh.Request, ok bool) {
@@ -90,17 +107,32 @@ func (s *session) exit(status uint32) {
 }
 
 // awaitEnd reads on, for a second at most, until the client ends its side. A git that writes to an ssh that has gone dies of SIGPIPE before it shows
-// what the server said.
+// what the server said. What a client sends after that second is dropped, and does not count: the connection ends as one without sessions.
 func (s *session) awaitEnd() {
 	_ = s.channel.CloseWrite()
-	timer := time.AfterFunc(time.Second, func() { s.channel.Close() })
-	defer timer.Stop()
-	_, _ = io.Copy(io.Discard, s.channel)
+	from := s.channel
+	if idle, is := from.(*patient); is {
+		from = idle.Channel
+	}
+	over := make(chan struct{})
+	go func() {
+		defer close(over)
+		_, _ = io.Copy(io.Discard, from)
+	}()
+	select {
+	case <-over:
+	case <-time.After(time.Second):
+	}
+}
+
+// terminal is where the user sees sentences. The client has to take each within the time that it may take nothing.
+func (s *session) terminal() io.Writer {
+	return inParts{s.channel.Stderr(), s.Limits.Get().Idle, func() { s.conn.Close() }}
 }
 
 // say writes a sentence to the user's terminal.
 func (s *session) say(why string) uint32 {
-	fmt.Fprintf(s.channel.Stderr(), "gitpoold: %s\r\n", why)
+	fmt.Fprintf(s.terminal(), "gitpoold: %s\r\n", why)
 	return failed
 }
 

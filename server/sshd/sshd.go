@@ -70,11 +70,15 @@ func (s *server) drain() error {
 	return nil
 }
 
-// userKey is where a connection's permissions have its user.
-const userKey = "user"
+// Where a connection's permissions have its user, and what let the user in: a key, or the hash of a password.
+const (
+	userKey = "user"
+	keyKey  = "key"
+	hashKey = "hash"
+)
 
-func permissions(user string) *ssh.Permissions {
-	return &ssh.Permissions{Extensions: map[string]string{userKey: user}}
+func permissions(user, by, what string) *ssh.Permissions {
+	return &ssh.Permissions{Extensions: map[string]string{userKey: user, by: what}}
 }
 
 var errDenied = errors.New("denied")
@@ -85,17 +89,19 @@ func (s *server) config(ctx context.Context, hostKey ssh.Signer) *ssh.ServerConf
 		ServerVersion: "SSH-2.0-gitpoold",
 		PublicKeyCallback: func(c ssh.ConnMetadata, key ssh.PublicKey) (*ssh.Permissions, error) {
 			if user, ok := s.Access.Key(c.User(), key); ok {
-				return permissions(user), nil
+				return permissions(user, keyKey, string(key.Marshal())), nil
 			}
 			return nil, errDenied
 		},
 		PasswordCallback: func(c ssh.ConnMetadata, password []byte) (*ssh.Permissions, error) {
 			within, stop := context.WithTimeout(ctx, s.Limits.Get().Handshake)
 			defer stop()
+			// Where the password changes meanwhile, the older hash is refused later on.
+			hash := s.Access.Hash(c.User())
 			if s.Access.Password(within, c.User(), string(password), host(c.RemoteAddr())) != nil {
 				return nil, errDenied
 			}
-			return permissions(c.User()), nil
+			return permissions(c.User(), hashKey, hash), nil
 		},
 	}
 	config.AddHostKey(hostKey)
@@ -146,23 +152,27 @@ func (s *server) sessions(ctx context.Context, conn *ssh.ServerConn, channels <-
 		running.Add(1)
 		go func() {
 			defer running.Done()
-			defer s.free(places, idle)
 			it := &session{server: s, conn: conn, channel: channel, user: conn.Permissions.Extensions[userKey],
 				address: host(conn.RemoteAddr())}
-			it.serve(ctx, requests)
+			if ends := it.serve(ctx, requests); s.free(places, idle) && ends {
+				conn.Close()
+			}
 		}()
 	}
 }
 
-// free gives the place of a session back. A connection without sessions ends after a while, whatever else its client sends.
-func (s *server) free(places chan struct{}, idle *time.Timer) {
+// free gives the place of a session back, and tells whether it was the last one. A connection without sessions ends after a while, whatever else its
+// client sends.
+func (s *server) free(places chan struct{}, idle *time.Timer) (last bool) {
 	if <-places; len(places) > 0 {
-		return
+		return false
 	}
 	idle.Reset(s.Limits.Get().Idle)
 	if len(places) > 0 {
 		idle.Stop()
+		return false
 	}
+	return true
 }
 
 // accept takes a channel if it is a session and there is a place for it.

@@ -157,10 +157,9 @@ func (r *received) Read(into []byte) (int, error) {
 	return count, err
 }
 
-// tell writes a sentence to the user's terminal, within the time that a client may take nothing.
+// tell writes a sentence to the user's terminal.
 func (s *session) tell(sentence string) {
-	out := inParts{s.channel.Stderr(), s.Limits.Get().Idle, func() { s.conn.Close() }}
-	fmt.Fprintf(out, "gitpoold: %s\n", sentence)
+	fmt.Fprintf(s.terminal(), "gitpoold: %s\n", sentence)
 }
 
 // tellFault tells an error as the program does, after a sentence, and gives its status.

@@ -3,6 +3,7 @@ package store
 import (
 	"gitpoold/answers"
 	"gitpoold/frames"
+	"gitpoold/journal"
 )
 
 // How the answers of streams with tokens are kept stands in this file alone.
@@ -25,14 +26,14 @@ func (st *Stream) noted(steps []frames.Step) []frames.Step {
 	return noted
 }
 
-// keep keeps the answer to an End that was sent, if that went well. A save may wait for it. There is no answer where the child has died; then
-// the next one carries the End out, and keepAgain keeps its answer.
-func (st *Stream) keep(told []frames.Answer) {
+// keep keeps the answer to an End that was sent, if that went well and is the one that is told. A save may wait for it. Where the child has died, or
+// the End is being taken back, another child may carry it out, and keepAgain keeps its answer.
+func (st *Stream) keep(told []frames.Answer, isTold bool) {
 	if st.kept == nil {
 		return
 	}
 	defer st.store.keeping.Done()
-	if last := len(told) - 1; last >= 0 && told[last].Status == frames.Ok {
+	if last := len(told) - 1; isTold && told[last].Status == frames.Ok {
 		st.store.answers.Add(st.tenant, st.kept.With(told[last].Reply))
 	}
 }
@@ -47,6 +48,44 @@ func (s *Store) keepAgain(step frames.Step, told frames.Answer) {
 	}
 	if it, is := answers.Parse(step.Body); is && step.Kind == frames.End {
 		s.answers.Add(step.Tenant, it.With(told.Reply))
+	}
+}
+
+// tokens are the answers that are to be kept of a journal that is carried out, in its order. They are kept where that goes well to its end.
+type tokens struct {
+	store *Store
+	all   []func()
+}
+
+func (s *Store) newTokens() *tokens { return &tokens{store: s} }
+
+func (t *tokens) answered(step frames.Step, told frames.Answer) {
+	t.all = append(t.all, func() { t.store.keepAgain(step, told) })
+}
+
+// before takes the answers that came with a tenant from another shard, and gives all other records to `take`.
+func (t *tokens) before(take func(journal.Record) error) func(journal.Record) error {
+	return func(record journal.Record) error {
+		if it := record.Step; it.Kind == journal.Brought && len(it.Body) > 0 && it.Body[0] == broughtAnswer {
+			t.all = append(t.all, func() { _ = t.store.takeBrought(it.Tenant, it.Body) })
+			return nil
+		}
+		return take(record)
+	}
+}
+
+func (t *tokens) keep() {
+	for _, it := range t.all {
+		it()
+	}
+}
+
+// dropTokens forgets the answers to Ends that were taken back.
+func (s *Store) dropTokens(found fate) {
+	for _, step := range found.takenEnds {
+		if it, is := answers.Parse(step.Body); is {
+			s.answers.Drop(step.Tenant, it.Token)
+		}
 	}
 }
 

@@ -90,6 +90,7 @@ func (s *Store) carryOutFollowed(process *child.Process, room string, pool journ
 	if err != nil {
 		return true, err
 	}
+	s.dropTokens(fate)
 	r := newOngoing(process, fate)
 	r.answered = func(record journal.Record, answer frames.Answer) { s.keepAgain(record.Step, answer) }
 	r.brought = s.addFed

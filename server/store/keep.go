@@ -21,6 +21,8 @@ const (
 	// until a save goes well, it is whileBroken.
 	afterFailure = 10 * time.Minute
 	whileBroken  = 30 * time.Second
+	// starvedEvery is how often at most a save is made because the child had no memory for a piece of a stream that was given up.
+	starvedEvery = time.Minute
 )
 
 // pauseAfter is how long nothing is saved by itself after a save.
@@ -47,7 +49,7 @@ func (s *Store) Keep(ctx context.Context, rhythm func() Rhythm) {
 	go s.endStalled(ctx, rhythm)
 	ticker := time.NewTicker(lookEvery)
 	defer ticker.Stop()
-	last, pause := time.Now(), time.Duration(0)
+	last := lastSave{at: time.Now()}
 	for {
 		isWanted := false
 		select {
@@ -57,16 +59,38 @@ func (s *Store) Keep(ctx context.Context, rhythm func() Rhythm) {
 			isWanted = true
 		case <-ticker.C:
 		}
-		if !isWanted && (time.Since(last) < pause || !s.isDue(rhythm(), last)) {
-			continue
+		if isWanted || s.isDue(rhythm(), &last) {
+			last = s.saveNow(ctx)
 		}
-		last = time.Now()
-		pause = s.pauseAfter(s.Save(ctx))
 	}
 }
 
-func (s *Store) isDue(now Rhythm, last time.Time) bool {
-	return s.journal.Bytes() > now.JournalBytes || s.journal.IsHealedBySave() || s.isCopyLate.Load() || s.journal.HasSteps() && time.Since(last) > now.SaveEvery
+// lastSave is the last save that Keep made: when it began, why it failed, and how many bytes of the journal it left, for streams that are open.
+type lastSave struct {
+	at     time.Time
+	failed error
+	left   int64
+}
+
+func (s *Store) saveNow(ctx context.Context) lastSave {
+	it := lastSave{at: time.Now()}
+	if it.failed = s.Save(ctx); it.failed == nil && !s.isFollowing() {
+		it.left = s.journal.Bytes()
+	}
+	return it
+}
+
+// isDue tells whether it is time for another save. What the last one had to leave in the journal asks for none: another one would leave it too.
+func (s *Store) isDue(now Rhythm, last *lastSave) bool {
+	bytes, since := s.journal.Bytes(), time.Since(last.at)
+	if bytes < last.left {
+		last.left = bytes
+	}
+	if since < s.pauseAfter(last.failed) {
+		return false
+	}
+	return bytes-last.left > now.JournalBytes || s.journal.IsHealedBySave() || s.isCopyLate.Load() ||
+		s.hasStarved.Load() && since > starvedEvery || s.journal.HasSteps() && since > now.SaveEvery
 }
 
 // endStalled ends a child that works without an answer for too long; `watch`, or the save that waits for it, starts another one. Without a second

@@ -4,6 +4,7 @@ import (
 	"errors"
 	"testing"
 
+	"gitpoold/answers"
 	"gitpoold/frames"
 	"gitpoold/journal"
 )
@@ -70,4 +71,212 @@ func TestAStreamWhoseRecordsAreLostIsRefused(t *testing.T) {
 		t.Fatal(err)
 	}
 	hasMessages(t, s, "a", "refs/heads/main", []string{"m"})
+}
+
+// full is a journal that has no room for an Open.
+type full struct{ journal.Journal }
+
+func (f full) Append(steps ...frames.Step) (uint64, error) {
+	if steps[0].Kind == frames.Open {
+		return 0, journal.ErrFull
+	}
+	return f.Journal.Append(steps...)
+}
+
+// TestAnOpenWithoutRoomTakesNothingBack has a stream whose Open found no room in the journal. It is given up, and the stream before, which has ended, stays.
+func TestAnOpenWithoutRoomTakesNothingBack(t *testing.T) {
+	c := config(t, folder(t))
+	s := opened(t, c)
+	pushAll(t, s, "m0")
+	log := s.journal
+	s.journal = full{log}
+	if _, err := s.Begin(background, "a", Whole); !errors.Is(err, journal.ErrFull) {
+		t.Fatal(err)
+	}
+	s.journal = log
+	pushAll(t, s, "m1")
+	crash(s)
+	s = opened(t, c)
+	defer s.Close(background)
+	hasMessages(t, s, "a", "refs/heads/main", []string{"m0", "m1"})
+}
+
+// TestCheckpointsOfALostStreamAreSaved has a stream whose checkpoint others have read when the journal loses its records. A push on top of it stays.
+func TestCheckpointsOfALostStreamAreSaved(t *testing.T) {
+	c := config(t, folder(t))
+	s := opened(t, c)
+	st, err := s.Begin(background, "a", Checkpoints)
+	if err != nil {
+		t.Fatal(err)
+	}
+	if err := fed(st, append(commitOn("refs/heads/main", "m0", ""), "checkpoint\n"...)); err != nil {
+		t.Fatal(err)
+	}
+	hasMessages(t, s, "a", "refs/heads/main", []string{"m0"})
+	s.journal = lossy{s.journal}
+	if err := s.Save(background); err != nil {
+		t.Fatal(err)
+	}
+	st.GiveUp()
+	pushAll(t, s, "m1")
+	crash(s)
+	s = opened(t, c)
+	defer s.Close(background)
+	hasMessages(t, s, "a", "refs/heads/main", []string{"m0", "m1"})
+}
+
+// untold has a stream with a token whose End is in the journal and with the child, and of which nobody was told.
+func untold(t *testing.T, s *Store) (*Stream, sentEnd) {
+	t.Helper()
+	st, err := s.Begin(background, "b", Checkpoints)
+	if err != nil {
+		t.Fatal(err)
+	}
+	st.Keep(answers.New("t0", nil))
+	if err := fed(st, commitOn("refs/heads/main", "m0", "")); err != nil {
+		t.Fatal(err)
+	}
+	sent, err := st.sendEnd(background, nil)
+	if err != nil {
+		t.Fatal(err)
+	}
+	return st, sent
+}
+
+// TestATokenOfWhatIsTakenBackIsNotKept has a stream with a token whose End is taken back: a client that sends it again is not told that it has ended.
+func TestATokenOfWhatIsTakenBackIsNotKept(t *testing.T) {
+	c := config(t, folder(t))
+	s := opened(t, c)
+	st, sent := untold(t, s)
+	told, err := sent.batch.Wait(background)
+	if err != nil || told[0].Status != frames.Ok {
+		t.Fatal(told, err)
+	}
+	s.takeBackUntold()
+	st.keep(told, s.forget(sent.number))
+	if _, has := s.Kept("b", "t0"); has {
+		t.Fatal("the token is kept")
+	}
+	s.answers.Add("b", answers.New("t0", nil))
+	if err := s.answers.Save(); err != nil {
+		t.Fatal(err)
+	}
+	crash(s)
+	s = opened(t, c)
+	defer s.Close(background)
+	if _, has := s.Kept("b", "t0"); has {
+		t.Fatal("the token is kept after a start")
+	}
+	hasMessages(t, s, "b", "refs/heads/main", nil)
+}
+
+// cut is a journal that has another stream when it is read for the second time, and cannot be read to its end.
+type cut struct {
+	journal.Journal
+	reads int
+}
+
+func (c *cut) Records(pool journal.Digest, take func(journal.Record) error) error {
+	err := c.Journal.Records(pool, take)
+	if c.reads++; c.reads != 2 || err != nil {
+		return err
+	}
+	step := frames.Step{Kind: frames.Open, Tenant: "c", Body: []byte{byte(Checkpoints)}}
+	for number := uint64(1 << 40); number < 1<<40+2*replayAhead && err == nil; number++ {
+		err = take(journal.Record{Number: number, Step: step})
+		step = frames.Step{Kind: frames.Feed, Tenant: "c", Body: []byte("\n")}
+	}
+	if err == nil {
+		err = journal.ErrUnread
+	}
+	return err
+}
+
+// startsAgain starts another child, as where the one that there was has died.
+func startsAgain(s *Store) error {
+	s.maintain <- struct{}{}
+	defer s.endMaintenance()
+	_ = s.steps.shut(background)
+	defer s.steps.open()
+	before := s.process
+	defer before.Kill()
+	return s.start()
+}
+
+// TestTokensAreKeptAfterAWholeStart has a start that fails when the child has carried out an End with a token: that may be taken back still.
+func TestTokensAreKeptAfterAWholeStart(t *testing.T) {
+	s := opened(t, plain(t, folder(t)))
+	defer s.Close(background)
+	st, sent := untold(t, s)
+	st.keep(nil, false)
+	log := s.journal
+	s.journal = &cut{Journal: log}
+	err := startsAgain(s)
+	s.journal = log
+	if _, has := s.Kept("b", "t0"); !errors.Is(err, journal.ErrUnread) || has {
+		t.Fatal(has, err)
+	}
+	if err := startsAgain(s); err != nil {
+		t.Fatal(err)
+	}
+	if _, err := s.outcome(sent.outcome); err != nil {
+		t.Fatal(err)
+	}
+	if _, has := s.Kept("b", "t0"); !has {
+		t.Fatal("the token is not kept")
+	}
+}
+
+// unsynced is a journal of which nobody knows whether it has what was appended last.
+type unsynced struct{ journal.Journal }
+
+func (u unsynced) Sync(uint64) error { return journal.ErrUnsure }
+
+// TestWhatIsPerhapsTakenBackIsUnknown has an End that is taken back when the journal does not say whether it has that.
+func TestWhatIsPerhapsTakenBackIsUnknown(t *testing.T) {
+	s := opened(t, config(t, folder(t)))
+	defer s.Close(background)
+	st, sent := untold(t, s)
+	st.keep(nil, false)
+	log := s.journal
+	s.journal = unsynced{log}
+	s.takeBackUntold()
+	s.journal = log
+	if _, err := s.outcome(sent.outcome); err != ErrUnknown {
+		t.Fatal(err)
+	}
+}
+
+// dropping is a journal that loses the Opens of streams, as one in Redis does that is away, and that cannot be read.
+type dropping struct{ journal.Journal }
+
+func (d dropping) Append(steps ...frames.Step) (uint64, error) {
+	if steps[0].Kind == frames.Open {
+		return 1 << 40, nil
+	}
+	return d.Journal.Append(steps...)
+}
+
+func (d dropping) Records(journal.Digest, func(journal.Record) error) error { return journal.ErrUnread }
+
+// TestAStreamOfTheChildBeforeTakesNothingBack has a stream whose Open was lost with its child, when no other child could be started and the server stops.
+func TestAStreamOfTheChildBeforeTakesNothingBack(t *testing.T) {
+	c := plain(t, folder(t))
+	s := opened(t, c)
+	pushAll(t, s, "m0")
+	log := s.journal
+	s.journal = dropping{log}
+	st, err := s.Begin(background, "a", Checkpoints)
+	if err != nil {
+		t.Fatal(err)
+	}
+	if err := startsAgain(s); !errors.Is(err, journal.ErrUnread) {
+		t.Fatal(err)
+	}
+	st.GiveUp()
+	s.journal = log
+	crash(s)
+	s = opened(t, c)
+	defer s.Close(background)
+	hasMessages(t, s, "a", "refs/heads/main", []string{"m0"})
 }

@@ -75,14 +75,22 @@ func (s *Store) endMaintenance() { <-s.maintain }
 
 // save saves, and calls `written` when the pool file is written and not in its place yet.
 func (s *Store) save(ctx context.Context, written func()) error {
-	err := s.writeAndBegin(ctx)
+	hadStarved, err := s.writeAndBegin(ctx)
 	written()
-	if err != nil {
-		return err
+	if err == nil {
+		err = s.renamePool()
 	}
-	if err := s.renamePool(); err != nil {
-		return err
+	if err == nil {
+		err = s.copyAndDrop()
 	}
+	if err != nil && hadStarved {
+		s.hasStarved.Store(true)
+	}
+	return err
+}
+
+// copyAndDrop copies the pool file, and drops what the journal had before it.
+func (s *Store) copyAndDrop() error {
 	if err := s.copyPool(); err != nil {
 		return fmt.Errorf("%s: %w", s.config.Copy, err)
 	}
@@ -105,23 +113,45 @@ func (s *Store) renamePool() error {
 
 // writeAndBegin has the child write the pool file, and begins the segment of what comes after it. No step comes in between, so what is in
 // the file and what is in the segment are parted for all tenants at one place. The child answers nobody while it writes; a second one may.
-func (s *Store) writeAndBegin(ctx context.Context) error {
+// It tells whether a stream had been given up for want of memory.
+func (s *Store) writeAndBegin(ctx context.Context) (hadStarved bool, err error) {
 	open, err := s.shutForSave(ctx)
 	if err != nil {
-		return err
+		return false, err
 	}
 	defer open()
+	s.abandonLost()
+	hadStarved = s.hasStarved.Swap(false)
 	digest, err := s.writePool(s.process, s.room)
-	if err != nil {
-		return err
+	if err == nil {
+		err = s.readSizes(s.process)
 	}
-	if err := s.readSizes(s.process); err != nil {
-		return err
+	if err == nil {
+		err = s.saveAnswers()
 	}
-	if err := s.saveAnswers(); err != nil {
-		return err
+	if err == nil {
+		err = s.journal.Begin(digest, s.openNumbers())
 	}
-	return s.journal.Begin(digest, s.openNumbers())
+	return hadStarved, err
+}
+
+// abandonLost lets the child give up the streams of which the journal has lost steps. What they had at their last checkpoints has been read by
+// others, who may push on top of it, so the pool file is to have it. The gate `steps` is shut.
+func (s *Store) abandonLost() {
+	for _, tenant := range s.lostStreams() {
+		giveUp(context.Background(), s.process, tenant)
+	}
+}
+
+func (s *Store) lostStreams() (tenants []string) {
+	s.mutex.Lock()
+	defer s.mutex.Unlock()
+	for tenant, stream := range s.open {
+		if stream.process == s.process && !stream.isEnded && !stream.isInJournal() {
+			tenants = append(tenants, tenant)
+		}
+	}
+	return tenants
 }
 
 // writePool has a child write the pool file that is to be the next one, and gives its digest.

@@ -295,7 +295,7 @@ func TestKeepSaves(t *testing.T) {
 			}
 		}
 		until := time.Now().Add(time.Minute)
-		for s.Counts().Saves == 0 || s.isDue(rhythm, time.Now().Add(-time.Second)) {
+		for s.Counts().Saves == 0 || s.isDue(rhythm, &lastSave{at: time.Now().Add(-time.Second)}) {
 			if time.Now().After(until) {
 				t.Fatal(name, "nothing is saved")
 			}
@@ -319,7 +319,11 @@ func TestABrokenJournalIsHealedSoon(t *testing.T) {
 	if err := s.journal.Close(); err != nil {
 		t.Fatal(err)
 	}
-	if err := push(s, "a", "refs/heads/main", "m1"); err == nil || s.pauseAfter(errDisk) != whileBroken {
+	rhythm, failed := Rhythm{1 << 40, time.Hour, time.Hour}, lastSave{at: time.Now().Add(-whileBroken), failed: errDisk}
+	if s.isDue(rhythm, &failed) {
+		t.Fatal("a save that failed is tried again too soon")
+	}
+	if err := push(s, "a", "refs/heads/main", "m1"); err == nil || s.pauseAfter(errDisk) != whileBroken || !s.isDue(rhythm, &failed) {
 		t.Fatalf("%v; the next save comes after %v", err, s.pauseAfter(errDisk))
 	}
 	if err := s.Save(background); err != nil {

@@ -41,6 +41,8 @@ func (s *Store) start() error {
 	if err := s.carryOut(process, room, journal.Digest(digest)); err != nil {
 		process.Kill()
 		os.RemoveAll(room)
+		// The journal may have gone on without steps of streams that the child before had: these write no more.
+		s.process = process
 		return &loadError{err, said.last()}
 	}
 	os.RemoveAll(s.room)
@@ -171,8 +173,8 @@ func (s *Store) revive() {
 	}
 }
 
-// takeBackUntold takes back what nobody was told of, where the journal cannot be carried out with them. What cannot be taken back stays. From
-// here on nobody tells of these but by what comes of it.
+// takeBackUntold takes back what nobody was told of, where the journal cannot be carried out with them. Of what could perhaps not be taken back
+// nobody can tell what came.
 func (s *Store) takeBackUntold() {
 	s.mutex.Lock()
 	untold := s.ends
@@ -187,11 +189,10 @@ func (s *Store) takeBackUntold() {
 		}
 		if err == nil {
 			it.answer <- frames.Answer{Status: frames.Fault, Value: 90}
-			continue
+		} else {
+			// The journal may have it that it is taken back.
+			close(it.answer)
 		}
-		s.mutex.Lock()
-		s.ends[number] = it
-		s.mutex.Unlock()
 	}
 }
 
@@ -224,8 +225,11 @@ func newOngoing(process *child.Process, fate fate) *replay {
 }
 
 // fate is what became of what is in the journal, by the numbers of records: the Opens whose streams have an End that was not taken back,
-// those whose End was, and the operator's requests that were taken back.
-type fate struct{ ended, withdrawn, takenBack map[uint64]bool }
+// those whose End was, and the operator's requests that were taken back. takenEnds are the Ends that were taken back.
+type fate struct {
+	ended, withdrawn, takenBack map[uint64]bool
+	takenEnds                   []frames.Step
+}
 
 // replayed is a stream that is open in the journal. One that leaves nothing is left out.
 type replayed struct {
@@ -255,21 +259,23 @@ func (s *Store) carryOut(process *child.Process, room string, pool journal.Diges
 	if err != nil {
 		return err
 	}
-	r, answers := newReplay(process, fate), map[uint64]frames.Answer{}
+	r, answers, tokens := newReplay(process, fate), map[uint64]frames.Answer{}, s.newTokens()
 	r.answered = func(record journal.Record, answer frames.Answer) {
 		answers[record.Number] = answer
-		s.keepAgain(record.Step, answer)
+		tokens.answered(record.Step, answer)
 	}
 	// It is answered when the child has loaded the pool file.
 	if err := s.readSizes(process); err != nil {
 		return err
 	}
-	if err := s.journal.Records(pool, r.take); err != nil {
+	if err := s.journal.Records(pool, tokens.before(r.take)); err != nil {
 		return err
 	}
 	if err := r.settle(0); err != nil {
 		return err
 	}
+	s.dropTokens(fate)
+	tokens.keep()
 	for tenant := range r.streams {
 		r.drop(tenant)
 		s.noteGivenUp(tenant)
@@ -280,17 +286,20 @@ func (s *Store) carryOut(process *child.Process, room string, pool journal.Diges
 
 // fateOf looks through the journal for what became of its streams and requests.
 func (s *Store) fateOf(pool journal.Digest) (fate, error) {
-	found, open := fate{map[uint64]bool{}, map[uint64]bool{}, map[uint64]bool{}}, map[string]uint64{}
+	found := fate{ended: map[uint64]bool{}, withdrawn: map[uint64]bool{}, takenBack: map[uint64]bool{}}
+	open, ends := map[string]uint64{}, map[string]frames.Step{}
 	err := s.journal.Records(pool, func(r journal.Record) error {
 		switch r.Step.Kind {
 		case frames.Open:
 			open[r.Step.Tenant] = r.Number
 		case frames.End:
 			found.ended[open[r.Step.Tenant]] = true
+			ends[r.Step.Tenant] = r.Step
 		case journal.GivenUp:
 			if number := open[r.Step.Tenant]; found.ended[number] {
 				delete(found.ended, number)
 				found.withdrawn[number] = true
+				found.takenEnds = append(found.takenEnds, ends[r.Step.Tenant])
 			}
 		case journal.TakenBack:
 			if len(r.Step.Body) == 8 {

@@ -109,6 +109,8 @@ type Store struct {
 	taken  atomic.Int64
 	// isCopyLate says that the pool file could not be copied.
 	isCopyLate atomic.Bool
+	// hasStarved says that a stream was given up for which the child had had no memory, and that no save came since.
+	hasStarved atomic.Bool
 	// isAlone says that the last save had no second child, although it should have had one; whoever saves sets it.
 	isAlone bool
 }

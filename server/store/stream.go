@@ -4,6 +4,7 @@ import (
 	"context"
 	"errors"
 	"sync"
+	"sync/atomic"
 
 	"gitpoold/answers"
 	"gitpoold/child"
@@ -29,6 +30,9 @@ type Stream struct {
 	tenant string
 	form   Form
 
+	// isStarved tells whether the child had no memory for a piece.
+	isStarved atomic.Bool
+
 	mutex    sync.Mutex
 	fed      int64
 	isClosed bool
@@ -51,12 +55,15 @@ func (st *Stream) openNumber(process *child.Process) (number uint64, isOpen bool
 // isInJournal tells whether the journal may have all steps of the stream.
 func (st *Stream) isInJournal() bool { return st.losses == st.store.journal.Losses() }
 
-// Pending is a piece that is on its way.
-type Pending struct{ batch *Batch }
+// Pending is a piece of a stream that is on its way.
+type Pending struct {
+	batch *Batch
+	of    *Stream
+}
 
 // Wait gives what the piece printed, or Refused.
 func (p Pending) Wait(ctx context.Context) ([]byte, error) {
-	answers, err := p.batch.Wait(ctx)
+	answers, err := p.answers(ctx)
 	if err != nil {
 		return nil, err
 	}
@@ -65,11 +72,19 @@ func (p Pending) Wait(ctx context.Context) ([]byte, error) {
 
 // Answer waits for the child's answer as it is.
 func (p Pending) Answer(ctx context.Context) (frames.Answer, error) {
-	answers, err := p.batch.Wait(ctx)
+	answers, err := p.answers(ctx)
 	if err != nil {
 		return frames.Answer{}, err
 	}
 	return answers[0], nil
+}
+
+func (p Pending) answers(ctx context.Context) ([]frames.Answer, error) {
+	answers, err := p.batch.Wait(ctx)
+	if err == nil && outOfMemory(answers) {
+		p.of.isStarved.Store(true)
+	}
+	return answers, err
 }
 
 // replies joins the replies of answers, or gives the first refusal.
@@ -141,7 +156,7 @@ func (st *Stream) openIn(ctx context.Context) (Pending, error) {
 	}
 	st.number = number
 	batch, err := st.process.Send(child.Endless(ctx), child.Short, frames.Step{Kind: frames.Open, Tenant: st.tenant})
-	return Pending{batch}, err
+	return Pending{batch, st}, err
 }
 
 // Feed feeds a piece of at most frames.LongestBody bytes. It does not wait for the answer. What the journal has the child gets, also where the
@@ -160,7 +175,7 @@ func (st *Stream) Feed(ctx context.Context, body []byte) (Pending, error) {
 	st.fed += int64(len(body))
 	st.store.taken.Add(1)
 	batch, err := st.process.Send(child.Endless(ctx), child.Short, step)
-	return Pending{batch}, err
+	return Pending{batch, st}, err
 }
 
 // enter goes in where the stream is open and its child is the one that there is.
@@ -199,16 +214,14 @@ func (st *Stream) Commit(ctx context.Context, last []byte) ([]byte, error) {
 		return nil, err
 	}
 	answers, err := sent.batch.Wait(context.Background())
-	st.keep(answers)
+	isTold := err == nil && st.store.forget(sent.number)
+	st.keep(answers, isTold)
 	switch {
-	case err != nil:
+	case !isTold:
 		// The journal has the End, so the next child carries it out.
 		answers, err = st.store.outcome(sent.outcome)
 	case outOfMemory(answers):
-		st.store.forget(sent.number)
 		err = st.withdraw()
-	case !st.store.forget(sent.number):
-		answers, err = st.store.outcome(sent.outcome)
 	}
 	faultpoint.Here("before a push is told")
 	if err != nil {
@@ -303,7 +316,10 @@ func (st *Stream) GiveUp() {
 	}
 	ctx := context.Background()
 	if err := st.enter(ctx); err == nil {
-		st.store.noteGivenUp(st.tenant)
+		// Where the journal lacks its Open, this would take back the End of the tenant's stream before.
+		if st.number > 0 && st.isInJournal() {
+			st.store.noteGivenUp(st.tenant)
+		}
 		st.isEnded = true
 		giveUp(ctx, st.process, st.tenant)
 		st.store.steps.leave()
@@ -336,6 +352,10 @@ func (st *Stream) close(well bool) {
 	}
 	s.mutex.Unlock()
 	s.streams.leave()
+	if st.form == Checkpoints && st.isStarved.Load() {
+		// Another child that carries the journal out may have no memory for the piece either, so the journal is not to keep it for long.
+		s.hasStarved.Store(true)
+	}
 }
 
 // end is an End of a tenant, or a request of the operator, that is in the journal, and of which nobody was told.
@@ -365,10 +385,13 @@ func (s *Store) forget(number uint64) bool {
 	return has
 }
 
-// outcome waits until another child has carried it out, and gives its answer.
+// outcome waits until another child has carried it out, and gives its answer. It is ErrUnknown where it was perhaps taken back.
 func (s *Store) outcome(from <-chan frames.Answer) ([]frames.Answer, error) {
 	select {
-	case answer := <-from:
+	case answer, isKnown := <-from:
+		if !isKnown {
+			return nil, ErrUnknown
+		}
 		return []frames.Answer{answer}, nil
 	case <-s.closing:
 		return nil, ErrUnknown

@@ -95,6 +95,7 @@ type Stream struct {
 	room     int64
 	fed      int64
 	last     string
+	lasts    func()
 }
 
 // expectation is what the next get-mark has to print, or where to put it.
@@ -167,8 +168,14 @@ func (s *Stream) run(feed func(*Stream) error) error {
 	if err == nil && strings.Contains(string(reply), "kept ") {
 		return errAnswer
 	}
+	if err == nil && s.lasts != nil {
+		s.lasts()
+	}
 	return err
 }
+
+// WhenItLasts lets `do` be called when the push lasts, before another push of the tenant begins.
+func (s *Stream) WhenItLasts(do func()) { s.lasts = do }
 
 // drain sends what was written, and waits until all of it is answered.
 func (s *Stream) drain() error {

@@ -62,8 +62,18 @@ func commits(contents string, name *Name) func(*Stream) error {
 func TestPushAndRead(t *testing.T) {
 	it := tenant(t, pool(t, 0), "acme/site")
 	var name Name
-	if err := it.Push(background, agree, commits("abc", &name)); err != nil {
-		t.Fatal(err)
+	told := 0
+	err := it.Push(background, agree, func(s *Stream) error {
+		s.WhenItLasts(func() {
+			// No other push has begun, and the refs are there.
+			if _, isTaken := it.pool.locks.try(it.name); !isTaken {
+				told++
+			}
+		})
+		return commits("abc", &name)(s)
+	})
+	if err != nil || told != 1 {
+		t.Fatal(told, err)
 	}
 	refs, head, err := it.Refs(background)
 	if err != nil || len(refs) != 1 || refs[0] != (Ref{"refs/heads/main", name}) || head != "refs/heads/main" {

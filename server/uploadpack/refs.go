@@ -7,7 +7,6 @@ import (
 	"fmt"
 	"sort"
 	"strings"
-	"sync"
 
 	"gitpoold/pktline"
 	"gitpoold/tenants"
@@ -57,14 +56,14 @@ func Advertise(ctx context.Context, t Repository, out *pktline.Writer, version i
 }
 
 // AdvertiseRefs writes refs as protocols 0 and 1 do. A tag's line is followed by what the tag is of, if chains has it.
-func AdvertiseRefs(out *pktline.Writer, refs []tenants.Ref, capabilities string, chains map[tenants.Name]walk.Chain) {
+func AdvertiseRefs(out *pktline.Writer, refs []tenants.Ref, capabilities string, chains map[tenants.Name]Chain) {
 	tail := "\x00" + capabilities
 	if len(refs) == 0 {
 		out.Line("%v capabilities^{}%s", tenants.Name{}, tail)
 	}
 	for _, ref := range refs {
 		out.Line("%v %s%s", ref.Target, ref.Name, tail)
-		if chain, is := chains[ref.Target]; is && strings.HasPrefix(ref.Name, tagRefs) {
+		if chain := chains[ref.Target]; chain.Tags > 0 && strings.HasPrefix(ref.Name, tagRefs) {
 			out.Line("%v %s^{}", chain.Peeled, ref.Name)
 		}
 		tail = ""
@@ -79,90 +78,6 @@ func targetOf(refs []tenants.Ref, name string) (tenants.Name, bool) {
 		}
 	}
 	return tenants.Name{}, false
-}
-
-// chainsOf gives the annotated tags that refs hold, by their names.
-func chainsOf(ctx context.Context, t Repository, refs []tenants.Ref) (map[tenants.Name]walk.Chain, error) {
-	found := map[tenants.Name]walk.Chain{}
-	var unknown []tenants.Name
-	for _, ref := range refs {
-		if !strings.HasPrefix(ref.Name, tagRefs) {
-			continue
-		}
-		if chain, is := remembered.get(ref.Target); !is {
-			unknown = append(unknown, ref.Target)
-		} else if len(chain.Names) > 0 {
-			found[ref.Target] = chain
-		}
-	}
-	return found, readChains(ctx, t, unknown, found)
-}
-
-// readChains follows tags, all of them a step at a time.
-func readChains(ctx context.Context, t Repository, names []tenants.Name, into map[tenants.Name]walk.Chain) error {
-	open := make([]*walk.Chain, len(names))
-	for at, name := range names {
-		open[at] = &walk.Chain{Peeled: name}
-	}
-	chains := open
-	for len(open) > 0 {
-		var err error
-		if open, err = follow(ctx, t, open); err != nil {
-			return err
-		}
-	}
-	for at, name := range names {
-		remembered.put(name, *chains[at])
-		if len(chains[at].Names) > 0 {
-			into[name] = *chains[at]
-		}
-	}
-	return nil
-}
-
-// follow goes one step on in each chain, and gives those that a step was found for.
-func follow(ctx context.Context, t Repository, open []*walk.Chain) (still []*walk.Chain, err error) {
-	ask := make([]tenants.Name, len(open))
-	for at, chain := range open {
-		ask[at] = chain.Peeled
-	}
-	at := 0
-	err = t.Objects(ctx, ask, func(o tenants.Object) error {
-		chain := open[at]
-		at++
-		if target, is := tagged(o); is {
-			chain.Names, chain.Peeled = append(chain.Names, o.Name), target
-			still = append(still, chain)
-		}
-		return nil
-	})
-	return still, err
-}
-
-// memory remembers what tags lead to. A name says for ever what it leads to; it is asked of names that a tenant's own refs hold.
-type memory struct {
-	mutex  sync.Mutex
-	chains map[tenants.Name]walk.Chain
-}
-
-const mostRemembered = 1 << 18
-
-var remembered memory
-
-func (m *memory) get(name tenants.Name) (walk.Chain, bool) {
-	m.mutex.Lock()
-	defer m.mutex.Unlock()
-	chain, is := m.chains[name]
-	return chain, is
-}
-
-func (m *memory) put(name tenants.Name, chain walk.Chain) {
-	m.mutex.Lock()
-	defer m.mutex.Unlock()
-	if m.chains == nil || len(m.chains) >= mostRemembered {
-		m.chains = map[tenants.Name]walk.Chain{}
-	}
-	m.chains[name] = chain
 }
 
 // listing is a request ls-refs.
@@ -204,7 +119,7 @@ func (l listing) serve(ctx context.Context, t Repository, out *pktline.Writer) e
 		return err
 	}
 	selected := l.selected(refs)
-	var chains map[tenants.Name]walk.Chain
+	var chains map[tenants.Name]Chain
 	if l.peel {
 		if chains, err = chainsOf(ctx, t, selected); err != nil {
 			return err
@@ -213,7 +128,7 @@ func (l listing) serve(ctx context.Context, t Repository, out *pktline.Writer) e
 	l.head(out, refs, head)
 	for _, ref := range selected {
 		tail := ""
-		if chain, is := chains[ref.Target]; is && strings.HasPrefix(ref.Name, tagRefs) {
+		if chain := chains[ref.Target]; chain.Tags > 0 && strings.HasPrefix(ref.Name, tagRefs) {
 			tail = fmt.Sprintf(" peeled:%v", chain.Peeled)
 		}
 		out.Line("%v %s%s", ref.Target, ref.Name, tail)

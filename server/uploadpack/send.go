@@ -133,11 +133,13 @@ func (a asking) Write(data []byte) (written int, err error) {
 func (f *fetch) sendPack(ctx context.Context, data, progress io.Writer) error {
 	q := walk.Request{Wants: f.wants, Haves: f.common, Was: f.shallow, Boundary: f.boundary, Filter: f.filter}
 	if f.can["include-tag"] {
-		tags, err := f.tagChains(ctx)
+		refs, _, err := f.t.Refs(ctx)
 		if err != nil {
 			return err
 		}
-		q.Tags = tags
+		if q.Tags, err = tagsOf(ctx, f.t, refs); err != nil {
+			return err
+		}
 	}
 	listing, err := walk.Select(ctx, f.t, f.history, q)
 	if err != nil {
@@ -153,16 +155,4 @@ func (f *fetch) sendPack(ctx context.Context, data, progress io.Writer) error {
 		return err
 	}
 	return w.Finish()
-}
-
-func (f *fetch) tagChains(ctx context.Context) (chains []walk.Chain, err error) {
-	refs, _, err := f.t.Refs(ctx)
-	if err != nil {
-		return nil, err
-	}
-	found, err := chainsOf(ctx, f.t, refs)
-	for _, chain := range found {
-		chains = append(chains, chain)
-	}
-	return chains, err
 }

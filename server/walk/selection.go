@@ -14,13 +14,8 @@ type Request struct {
 	Was          []tenants.Name // commits that the client has without their parents
 	Boundary     Boundary
 	Filter       Filter
-	Tags         []Chain // annotated tags to send where what they are of is sent
-}
-
-// Chain is an annotated tag, the tags that it leads to, and what the last one is of.
-type Chain struct {
-	Names  []tenants.Name
-	Peeled tenants.Name
+	// Tags are annotated tags to send where what they lead to in the end is sent, each with that.
+	Tags map[tenants.Name]tenants.Name
 }
 
 // Select lists what a fetch has to send. Where a history is whole, the tenant is asked once for all that is missing. Else the commits are
@@ -228,20 +223,20 @@ func (s *selection) filter(context.Context) error {
 	return nil
 }
 
-// tags adds annotated tags of what is listed, and the tags between.
+// tags adds annotated tags that lead to what is listed.
 func (s *selection) tags(ctx context.Context) error {
 	if len(s.request.Tags) == 0 {
 		return nil
 	}
-	chains := map[tenants.Name][]tenants.Name{}
-	for _, chain := range s.request.Tags {
-		chains[chain.Peeled] = append(chains[chain.Peeled], chain.Names...)
+	leading := map[tenants.Name][]tenants.Name{}
+	for tag, peeled := range s.request.Tags {
+		leading[peeled] = append(leading[peeled], tag)
 	}
 	var names []tenants.Name
 	listed := map[tenants.Name]bool{}
 	for at := 0; at < s.listing.Len(); at++ {
 		name := s.listing.Name(at)
-		if names = append(names, chains[name]...); s.listing.Kind(at) == tenants.Tag {
+		if names = append(names, leading[name]...); s.listing.Kind(at) == tenants.Tag {
 			listed[name] = true
 		}
 	}
