@@ -26,6 +26,7 @@ from typing import Callable, Iterable, Iterator, List, Optional, Sequence, Tuple
 from gitpool_calls import Calls, pieces_of
 from gitpool_frames import (ANSWER_HEAD, LONGEST_BODY, PIECE, STEP_HEAD, STEP_SIZE, Answer, Fault, Kind, OutOfMemory, Step, Text, as_bytes,
                             read_answer, read_step, write_answer, write_step)
+from gitpool_pipes import room_of
 from gitpool_program import (TRY_AGAIN, Channel, OverSsh, PathLike, PoolBusy, Run, ServiceError, connect, error_of, find_program,
                              folder_of_server, link_to, pool_of_stopped_server, remote_of)
 from gitpool_replies import (GitObject, Listed, Listing, LogEntry, Ref, Sizes, TreeEntry, read_kept, read_log, read_object, read_refs,
@@ -41,9 +42,8 @@ __all__ = [
 # About how many bytes of entries are asked for at once.
 _ENTRY_BYTES = 1 << 20
 
-# Questions that may be on their way at once. All of them fit into a pipe of 64 KiB together, so
-# that the program never waits for us while we wait for it.
-_ON_THEIR_WAY = 32_768
+# A question for entries has fewer bytes than this before the names.
+_BEFORE_NAMES = 128
 
 _QUESTIONS = (Kind.ASK, Kind.SIZES, Kind.MISSING, Kind.ENTRIES)
 
@@ -129,11 +129,12 @@ class Service(Calls):
         """The answers to many queries in turn. Questions are sent ahead of the answers, so that many short ones cost no
         round trip each. The service takes no other step before all answers are read."""
         head = STEP_HEAD.pack(Kind.ASK, len(as_bytes(tenant))) + as_bytes(tenant)
+        room = room_of(self._in)
         ahead = 0
         waiting: List[bytes] = []
         for query in queries:
             frame = head + STEP_SIZE.pack(len(query)) + query
-            if waiting and ahead + len(frame) > _ON_THEIR_WAY:
+            if waiting and ahead + len(frame) > room:
                 self._send(b"".join(waiting))
                 yield from (self._receive() for _ in waiting)
                 ahead, waiting = 0, []
@@ -159,7 +160,7 @@ class Service(Calls):
         Fault 16 where one is not there, and ServiceError where contents have another name than that; check=False leaves
         that to the caller."""
         question = STEP_HEAD.pack(Kind.ASK, len(as_bytes(tenant))) + as_bytes(tenant) + STEP_SIZE.pack(44) + b"cat "
-        ahead = _ON_THEIR_WAY // (len(question) + 40)
+        ahead = max(1, room_of(self._in) // (len(question) + 40))
         for at in range(0, len(names), ahead):
             part = names[at : at + ahead]
             self._send(b"".join([question + name for name in part]))
@@ -200,7 +201,7 @@ class Service(Calls):
         next step. About a megabyte is asked for while the one before is taken. Raises Fault 16 where the tenant has not an
         object, and ServiceError where entries have another length than the sizes of their objects say."""
         waiting: Optional[int] = None
-        for size, names in listing.parts(_ENTRY_BYTES, _ON_THEIR_WAY):
+        for size, names in listing.parts(_ENTRY_BYTES, room_of(self._in) - _BEFORE_NAMES):
             self._send(write_step(Step(Kind.ENTRIES, as_bytes(tenant), struct.pack(">Q", size) + names)))
             if waiting is not None:
                 yield from self._receive_pieces(waiting)

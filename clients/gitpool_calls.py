@@ -95,7 +95,7 @@ class Calls:
         return self.ask(tenant, b"head")[:-1]
 
     def resolve(self, tenant: Text, expression: Text) -> str:
-        """The name of the object that an expression of gitrevisions(7) names. Raises Fault 3, 15, 16 or 17."""
+        """The name of the object that an expression of gitrevisions(7) names. Raises Fault 15, 16, 17 or 41."""
         return self.ask(tenant, b"rev-parse " + as_bytes(expression))[:-1].decode()
 
     def log(self, tenant: Text, commits: Text) -> List[LogEntry]:

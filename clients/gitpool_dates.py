@@ -19,6 +19,8 @@ _WEEKDAYS = (b"sundays", b"mondays", b"tuesdays", b"wednesdays", b"thursdays", b
 _DAYS_BEFORE = (0, 31, 59, 90, 120, 151, 181, 212, 243, 273, 304, 334)
 _TEN_DAYS = 10 * 24 * 3600
 _SECONDS_FROM = 100_000_000
+_MOST_DIGITS = 30
+_TOO_LARGE: int = 10**30
 
 # Names of zones, each with its hours from UTC, summer time included. The first that fits is taken.
 _ZONES: Tuple[Tuple[bytes, int], ...] = (
@@ -33,7 +35,7 @@ _LETTERS = re.compile(rb"[A-Za-z]+")
 _DIGITS = re.compile(rb"[0-9]+")
 _SEVERAL = re.compile(rb"([0-9]+)([:./-])([0-9]+)(?:\2([0-9]+))?")
 _FRACTION = re.compile(rb"\.[0-9]+")
-_HEADER = re.compile(rb"@([0-9]+) ([+-])([0-9]{4})(?:\n|$)")
+_HEADER = re.compile(rb"@([0-9]{1,20}) ([+-])([0-9]{4})(?:\n|$)")
 
 
 def raw_date(text: bytes, form: str) -> Optional[bytes]:
@@ -47,7 +49,7 @@ def raw_date(text: bytes, form: str) -> Optional[bytes]:
     found_raw = _RAW.fullmatch(text)
     if not found_raw:
         return None
-    offset = int(found_raw.group(3))
+    offset = _number(found_raw.group(3))
     if form == "raw" and offset > 1400:
         return None
     return b"%b %b%04d" % (found_raw.group(1), found_raw.group(2), offset) if offset < 10_000 else found_raw.group(1) + b" +0000"
@@ -73,6 +75,11 @@ def parse_date(text: bytes) -> Optional[Tuple[int, int]]:
     while at < len(text) and text[at : at + 1] not in (b"\n", b"\0"):
         at += date.take(text, at)
     return date.found()
+
+
+def _number(digits: bytes) -> int:
+    """A number of a date. What has more digits than any date is as large as it has to be, for Python reads no number of any length."""
+    return int(digits[-_MOST_DIGITS:]) if not digits[:-_MOST_DIGITS].strip(b"0") else _TOO_LARGE
 
 
 class _Date:
@@ -151,7 +158,7 @@ class _Date:
 
     def _take_number(self, text: bytes, at: int) -> int:
         digits = _digits_at(text, at)
-        number, size = int(digits), len(digits)
+        number, size = _number(digits), len(digits)
         if number >= _SECONDS_FROM and self._is_empty() and self._set_seconds(number):
             return size
         several = _SEVERAL.match(text, at)
@@ -182,8 +189,8 @@ class _Date:
 
     def _take_several(self, found: "re.Match[bytes]", text: bytes) -> int:
         """A time, or a date of two or three numbers. Gives where it ends, or 0 where it is neither."""
-        first, second = int(found.group(1)), int(found.group(3))
-        third = -1 if found.group(4) is None else int(found.group(4))
+        first, second = _number(found.group(1)), _number(found.group(3))
+        third = -1 if found.group(4) is None else _number(found.group(4))
         if found.group(2) == b":":
             if not self._set_time(first, second, max(third, 0)):
                 return 0
@@ -226,7 +233,7 @@ class _Date:
 
     def _take_offset(self, text: bytes, at: int) -> int:
         digits = _digits_at(text, at + 1)
-        hours, minutes, end = int(digits), 0, at + 1 + len(digits)
+        hours, minutes, end = _number(digits), 0, at + 1 + len(digits)
         if len(digits) == 4:
             hours, minutes = divmod(hours, 100)
         elif len(digits) != 2:

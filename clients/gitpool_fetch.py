@@ -97,7 +97,7 @@ class Fetch:
         """Gives git the pack. A small one beside others is stored object by object, as git does it. Gives the file that keeps
         another one."""
         is_small = not self._is_bare and len(listing) < self._unpack_limit()
-        words = ["unpack-objects"] if is_small else ["index-pack", "--stdin", "--keep=gitpool fetch"]
+        words = ["unpack-objects"] if is_small else ["index-pack", "--stdin", "--index-version=2", "--keep=gitpool fetch"]
         # (unpack-objects shows how far it is unless it is told not to, and index-pack if it is told to)
         if is_small != bool(self._report):
             words.append("-q" if is_small else "-v")

@@ -11,8 +11,16 @@ import tempfile
 from contextlib import contextmanager
 from typing import IO, Dict, Iterable, Iterator, List, Optional, Sequence, Tuple
 
-# Names that are sent to a batch before its answers are read: together they fit into a pipe.
-_AHEAD = 512
+from gitpool_pipes import room_of
+
+# What the environment says of a repository, as in a hook of git. Another repository has none of it.
+_OF_A_REPOSITORY = ("GIT_DIR", "GIT_WORK_TREE", "GIT_INDEX_FILE", "GIT_OBJECT_DIRECTORY", "GIT_ALTERNATE_OBJECT_DIRECTORIES",
+                    "GIT_COMMON_DIR", "GIT_NAMESPACE", "GIT_PREFIX", "GIT_SHALLOW_FILE", "GIT_REPLACE_REF_BASE", "GIT_QUARANTINE_PATH")
+
+
+def of_no_repository() -> Dict[str, str]:
+    """The environment without what it says of a repository: for git commands of another one."""
+    return {name: value for name, value in os.environ.items() if name not in _OF_A_REPOSITORY}
 
 
 class GitError(Exception):
@@ -128,12 +136,14 @@ class Repository:
     def _ask(self, mode: str, names: Iterable[bytes]) -> Iterator[bytes]:
         batch = self._batch(mode)
         assert batch.stdin and batch.stdout
+        room, ahead = room_of(batch.stdin), 0
         waiting: List[bytes] = []
         for name in names:
-            waiting.append(name)
-            if len(waiting) == _AHEAD:
+            if ahead + len(name) >= room and waiting:
                 yield from self._answers(batch, waiting)
-                waiting = []
+                ahead, waiting = 0, []
+            waiting.append(name)
+            ahead += len(name) + 1
         yield from self._answers(batch, waiting)
 
     @staticmethod

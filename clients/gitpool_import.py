@@ -23,7 +23,7 @@ Reason = Union[Fault, CannotRewrite]
 
 class Refused(Exception):
     """A stream was refused: why, at which place, after how many bytes of which the service took all, with what they have, and whether
-    what its checkpoints left is saved."""
+    what its checkpoints left is saved. head is the ref that HEAD was set to then, if it was."""
 
     def __init__(self, reason: Reason, place: Place, is_at_end: bool, size: int, tally: Tally, has_saved: bool):
         self.reason = reason
@@ -32,6 +32,7 @@ class Refused(Exception):
         self.size = size
         self.tally = tally
         self.has_saved = has_saved
+        self.head: Optional[bytes] = None
         super().__init__(str(reason))
 
 
@@ -141,18 +142,25 @@ class Run:
         self.kept: List[bytes] = []
         self.is_at_end = False
         self.may_have_saved = False
+        self._edge = b""
 
     def feed_all(self, source: Source) -> None:
         """Feeds the stream, which is open, and ends it. Raises Fault and CannotRewrite."""
         feeder = _feeder(self._service, self._tenant, self._take, self._plan, is_rerun=False)
         for piece in source.first():
-            # (inside of data these bytes say nothing, which is found out where it matters)
-            self.may_have_saved = self.may_have_saved or b"checkpoint" in piece or b"done" in piece
+            self._look_for_saves(piece)
             self._feed(feeder, piece)
             self.fed += len(piece)
             self._shown(self.fed, self.tally.objects())
         self.is_at_end = True
         feeder.end()
+
+    def _look_for_saves(self, piece: bytes) -> None:
+        """Looks for what saves, which may begin in the piece before. (Inside of data these bytes say nothing, which is found out where it
+        matters.)"""
+        text = self._edge + piece
+        self.may_have_saved = self.may_have_saved or b"checkpoint" in text or b"done" in text
+        self._edge = text[-len(b"checkpoin") :]
 
     def _feed(self, feeder: Union[_Plain, _Planned], piece: bytes) -> None:
         try:
@@ -207,7 +215,7 @@ def import_stream(source: Source, request: Request) -> Imported:
                     raise
             refused = run.refused(lambda: request.start(False), source, reason, keeps_part)
             if not service.is_remote:
-                _give_up(service, keeps_part)
+                refused.head = _give_up(service, request.tenant, keeps_part)
             raise refused from None
         is_taken = keeps_part or not run.kept
         head = set_head(service, request.tenant) if is_taken else None
@@ -218,13 +226,15 @@ def import_stream(source: Source, request: Request) -> Imported:
     return Imported(run.fed, run.tally, list(dict.fromkeys(run.kept)), head, is_taken)
 
 
-def _give_up(service: Service, keeps_part: bool) -> None:
-    """Drops a refused stream. What its checkpoints left is saved, or not."""
+def _give_up(service: Service, tenant: bytes, keeps_part: bool) -> Optional[bytes]:
+    """Drops a refused stream. What its checkpoints left is saved, or not. Gives the ref that HEAD was set to, if it was."""
     if not keeps_part:
         service.kill()
-        return
+        return None
     service.restart()
+    head = set_head(service, tenant)
     service.close()
+    return head
 
 
 def set_head(service: Service, tenant: bytes) -> Optional[bytes]:

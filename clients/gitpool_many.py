@@ -8,6 +8,7 @@ from __future__ import annotations
 
 import contextlib
 import os
+import signal
 import subprocess
 import tempfile
 import time
@@ -15,15 +16,14 @@ from typing import IO, BinaryIO, Callable, ContextManager, Dict, Iterator, List,
 
 from gitpool import Fault, OutOfMemory, Service
 from gitpool_faults import sentences
+from gitpool_git import of_no_repository
 from gitpool_import import Imported, Lend, Reason, Run, Source, Start, set_head
 from gitpool_rewrite import CannotRewrite, Plan
 from gitpool_terminal import shown, size_of
 from gitpool_verdict import Verdict, words_of_kept, words_of_refused
 
 EXPORT = ("fast-export", "--all", "--use-done-feature", "--mark-tags", "--reencode=no", "--signed-tags=strip")
-_OF_A_REPOSITORY = ("GIT_DIR", "GIT_WORK_TREE", "GIT_INDEX_FILE", "GIT_OBJECT_DIRECTORY", "GIT_ALTERNATE_OBJECT_DIRECTORIES",
-                    "GIT_COMMON_DIR",
-                    "GIT_NAMESPACE", "GIT_PREFIX", "GIT_SHALLOW_FILE", "GIT_REPLACE_REF_BASE")
+
 
 
 class Entry(NamedTuple):
@@ -126,6 +126,9 @@ class Many:
             self._refused(service, source, run, reason, outcome)
         except OutOfMemory as error:
             self._drop(service, outcome, str(error), not run.may_have_saved)
+        except OSError:
+            outcome.is_undone = not run.may_have_saved
+            raise
         else:
             self._taken(service, run, outcome)
         outcome.verdict.changed(plan)
@@ -181,8 +184,7 @@ def open_stream(path: bytes) -> Iterator[Source]:
 @contextlib.contextmanager
 def _exported(path: bytes) -> Iterator[Source]:
     above = os.path.dirname(os.path.realpath(path))
-    environment = {name: value for name, value in os.environb.items() if os.fsdecode(name) not in _OF_A_REPOSITORY}
-    environment.update({b"GIT_CEILING_DIRECTORIES": above, b"GIT_NO_REPLACE_OBJECTS": b"1"})
+    environment = {**of_no_repository(), "GIT_CEILING_DIRECTORIES": os.fsdecode(above), "GIT_NO_REPLACE_OBJECTS": "1"}
     git = (b"git", b"-C", path)
     head = subprocess.run([*git, b"symbolic-ref", b"-q", b"HEAD"], env=environment, stdout=subprocess.PIPE,
                           stderr=subprocess.DEVNULL).stdout
@@ -202,11 +204,12 @@ def _exported(path: bytes) -> Iterator[Source]:
 
 
 def _wait(process: "subprocess.Popen[bytes]", said: IO[bytes]) -> None:
-    """Waits for the end of an export. Raises ExportFailed where it did not end well."""
+    """Waits for the end of an export. Raises ExportFailed where it did not end well. One that was not read to its end, since the stream
+    was refused, ends by SIGPIPE."""
     assert process.stdout
     process.stdout.close()
     status = process.wait()
-    if status:
+    if status not in (0, -signal.SIGPIPE):
         said.seek(0)
         lines = said.read().splitlines() or [b""]
         raise ExportFailed(f"git fast-export ended with status {status}: {shown(lines[-1])}")

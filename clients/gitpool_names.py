@@ -12,7 +12,7 @@ from typing import Callable, Dict, Iterator, List, Optional
 from gitpool_marks import LARGEST_MARK, Marks, NewFile
 from gitpool_rewrite import CannotRewrite, Plan, Stage, Work
 
-_USE = re.compile(rb"(M [0-7]+ |N |cat-blob |ls |from |merge |to |get-mark ):([0-9]+)(?=[ \n])")
+_USE = re.compile(rb"(M [0-7]+ |N |cat-blob |ls |from |merge |to |get-mark ):([0-9]{1,20})(?=[ \n])")
 _SET = re.compile(rb"mark :([0-9]{1,20})\n")
 _AT_ONCE = 8192
 _FIRST_OF_OURS = 0x67_69_74_70_6F_6F_6C_00

@@ -15,9 +15,10 @@ from gitpool import Fault, unquote
 from gitpool_rewrite import CannotRewrite, Stage, Work
 
 _NOTE_LINE = re.compile(rb"N (inline|:[0-9]+|[0-9a-f]{40}) ([^\n]+)\n")
-_MODIFY_LINE = re.compile(rb"M ([0-7]+) [^ \n]+ ([^\n]*)\n")
+_MODIFY_LINE = re.compile(rb"M ([0-7]{1,20}) [^ \n]+ ([^\n]*)\n")
 _TWO_PATHS = re.compile(rb'[CR] ("(?:[^"\\\n]|\\.)*"|[^ \n]+) ([^\n]*)\n')
 _HEX = re.compile(rb"[0-9a-f]*")
+_MARK = re.compile(rb":([0-9]{1,20})")
 _NO_OBJECT = b"0" * 40
 
 
@@ -221,7 +222,7 @@ class NoteStage(Stage):
         return line
 
     def _from(self, line: bytes) -> bytes:
-        commit = line.split(b" ", 1)[1][:-1]
+        commit = line.partition(b" ")[2][:-1]
         if self._work.position.command != b"tag":
             self._version = self._version_of(commit)
         if self._work.position.command == b"reset":
@@ -311,7 +312,10 @@ class NoteStage(Stage):
             return self._work.wire.ask(lines, len(b"160000 commit \t\n") + 40 + len(self._probe))[14:54]
         try:
             return self._work.service.resolve(self._work.tenant, commit + b"^{commit}").encode()
-        except Fault:
+        except Fault as fault:
+            if fault.number == 41:
+                # In a stream the service calls it a malformed line.
+                raise Fault(3) from None
             if len(commit) != 40 or not _HEX.fullmatch(commit):
                 raise
         # A commit of this stream, by its name.
@@ -395,7 +399,8 @@ class _Tips:
 
 def _mark_of(text: bytes) -> int:
     """The number of a mark, or 0 for what is none."""
-    return int(text[1:]) if text[:1] == b":" and text[1:].isdigit() else 0
+    found = _MARK.fullmatch(text)
+    return int(found.group(1)) if found else 0
 
 
 __all__ = ["NoteStage", "fanout_of", "is_note", "path_of"]

@@ -361,7 +361,7 @@ class OverSsh(Run):
     def __init__(self, address: "Remote"):
         given = os.environ.get("GIT_SSH_COMMAND") or shlex.quote(os.environ.get("GIT_SSH", "ssh"))
         port = ["-p", address.port] if address.port else []
-        super().__init__(["sh", "-c", "exec " + given + ' "$@"', given, *port, "--", address.host, f"frames {address.tenant}"])
+        super().__init__(["sh", "-c", given + ' "$@"', given, *port, "--", address.host, f"frames {address.tenant}"])
         self.name = f"the server at {address.host}"
 
 

@@ -38,7 +38,7 @@ class Judged(NamedTuple):
 
 
 class Push:
-    """One push over a service that nobody else changes. What the tenant has is asked once."""
+    """One push. What the tenant has is asked once, and its refs once more when nobody else can change them."""
 
     def __init__(self, service: Service, tenant: bytes, local: Repository, refs: Dict[bytes, bytes], head: bytes,
                  report: Report = lambda what, done, all: None):
@@ -193,10 +193,11 @@ class Push:
 
     def send(self, judged: List[Judged]) -> Set[bytes]:
         """Sends objects and refs, and gives the refs that the tenant kept because they would be rewound. Raises Fault, and
-        Refusal where an object came to another name; the service must then be killed."""
+        Refusal where an object came to another name, or another push was faster; the service must then be killed."""
+        stream = _Stream(self._service, self._tenant)
+        self._look_again(judged)
         finals = self._finals(judged)
         taken_back = self._taken_back(finals)
-        stream = _Stream(self._service, self._tenant)
         stream.put(self._preamble(judged, finals, bool(taken_back)))
         self._send_blobs(stream)
         scratch = self._scratch(finals)
@@ -207,6 +208,17 @@ class Push:
         last = self._last_piece(judged, finals, scratch, taken_back)
         stream.flush()
         return stream.finish(last)
+
+    def _look_again(self, judged: List[Judged]) -> None:
+        """Reads the refs once more, for a server, here or behind ssh, takes other pushes until the stream is open. Raises Refusal where a
+        ref that this push sets was changed since, or where git could not have it beside a new one."""
+        now = {ref.name: ref.target.encode() for ref in self._service.refs(self._tenant)}
+        for ref in [*(it.update.ref for it in judged), *(_TAGS + tag.name for tag in self._tags.values())]:
+            if now.get(ref) != self._refs.get(ref):
+                raise Refusal(f"{os.fsdecode(ref)} was changed by another push; fetch first")
+        self._refs = now
+        for why in self._nested_refs(judged).values():
+            raise Refusal(why)
 
     def _preamble(self, judged: List[Judged], finals: Dict[bytes, bytes], is_forced: bool) -> bytes:
         head = self._new_head(judged, finals)

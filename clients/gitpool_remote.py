@@ -14,7 +14,7 @@ from gitpool_faults import explain
 from gitpool_git import GitError, Repository
 from gitpool_objects import Refusal
 from gitpool_replies import unquote
-from gitpool_terminal import stop_once
+from gitpool_terminal import shown, stop_once
 from gitpool_version import version
 
 if TYPE_CHECKING:
@@ -24,6 +24,7 @@ CAPABILITIES = b"fetch\npush\noption\ncheck-connectivity\nobject-format\n\n"
 
 _SSH = re.compile(r"ssh://(?P<user>[^/@:]+@)?(?P<host>[^/:@\[\]]+|\[[^/@\[\]]+\])(?::(?P<port>[0-9]+))?(?P<pool>/.*)?")
 _OTHER_WAY = re.compile(r"ssh:|[a-z+]+://", re.IGNORECASE)
+_LONGEST_SENTENCE = 4096
 
 
 class UsageError(Exception):
@@ -252,7 +253,7 @@ class Helper:
             self._progress.end()
         for update in updates:
             why = bad.get(update.ref)
-            self._out.write(b"error %b %b\n" % (update.ref, os.fsencode(why.replace("\n", " "))) if why else b"ok %b\n" % update.ref)
+            self._out.write(b"error %b %b\n" % (update.ref, _on_one_line(why)) if why else b"ok %b\n" % update.ref)
         self._out.write(b"\n")
 
     def _update(self, line: bytes) -> Tuple[bytes, bytes, bool]:
@@ -287,6 +288,11 @@ class Helper:
             return bad
         finally:
             service.kill()
+
+
+def _on_one_line(why: str) -> bytes:
+    """A sentence as git shows it: what objects and refs bring into it tells a terminal nothing."""
+    return shown(why.replace("\n", " ").encode(errors="surrogateescape"), _LONGEST_SENTENCE).encode()
 
 
 def words_of(error: Exception) -> str:

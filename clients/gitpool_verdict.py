@@ -56,7 +56,7 @@ class Verdict:
         self.members.update(
             saved=refused.has_saved, fault=reason.number if isinstance(reason, Fault) else None, byte=place.byte, line=place.line,
             meaning=reason.meaning if isinstance(reason, Fault) else str(reason), text=shown(place.text), command=shown(place.command),
-            command_line=place.command_line, at_end=refused.is_at_end)
+            command_line=place.command_line, at_end=refused.is_at_end, head=refused.head and shown(refused.head, 1024))
         self.counted(refused.size, refused.tally)
 
     def failed(self, reason: str) -> None:

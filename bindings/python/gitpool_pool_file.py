@@ -61,7 +61,8 @@ class PoolFile:
                 os.close(left)
 
     def save(self, content: bytes) -> bool:
-        """Replaces the file, and waits for the disk. False where that fails; the file is then as it was."""
+        """Replaces the file, and waits for the disk. False where that fails; the file is then as it was, unless only the sync of its folder
+        failed."""
         try:
             self._replace(content)
             return True
@@ -71,6 +72,15 @@ class PoolFile:
             return False
 
     def _replace(self, content: bytes) -> None:
+        folder = os.open(os.path.dirname(self.path), os.O_RDONLY | os.O_DIRECTORY)
+        try:
+            self._write_next(content)
+            os.rename(self.path + ".next", self.path)
+            os.fsync(folder)
+        finally:
+            os.close(folder)
+
+    def _write_next(self, content: bytes) -> None:
         name = self.path + ".next"
         with contextlib.suppress(FileNotFoundError):
             os.unlink(name)
@@ -81,12 +91,6 @@ class PoolFile:
             if old:
                 _give(file.fileno(), old)
             os.fsync(file.fileno())
-        os.rename(name, self.path)
-        folder = os.open(os.path.dirname(self.path), os.O_RDONLY | os.O_DIRECTORY)
-        try:
-            os.fsync(folder)
-        finally:
-            os.close(folder)
 
     def release(self) -> None:
         """Lets the file go: FILE.new is removed."""

@@ -215,7 +215,8 @@ def clones_of_all_kinds(room: Room) -> None:
     assert not room.refs("untagged", "refs/tags")
     room.git("", "clone", "-q", "--reference", site, room.url(), "borrowing")
     room.git("", "clone", "-q", "--no-checkout", "-c", "fetch.fsckObjects=false", room.url(), "unchecked")
-    for name in ("bare", "branch", "tag", "single", "untagged", "borrowing", "unchecked"):
+    room.git("", "-c", "pack.indexVersion=1", "clone", "-q", "--bare", room.url(), "indexed")
+    for name in ("bare", "branch", "tag", "single", "untagged", "borrowing", "unchecked", "indexed"):
         room.is_sound(name)
 
 

@@ -206,7 +206,7 @@ def notes_that_are_refused(room: Room) -> None:
     start = noted(3, [])
     assert b"fault 2:" in imports(room, start + notes("refs/notes/x", "", "N inline :1\ndata 0\n").encode(), status=1).stderr
     cases = {"N :9999 :77": "fault 13:", "N :77 :1": "fault 13:", "N :1 :2": "fault 15:", "N :9999 :9999": "fault 15:",
-             "N :9999 refs/heads/none": "fault 16:", "N :9999 " + "1" * 40: "fault 14:", "N nothing": "fault 2:", "N x :1": "fault 2:",
+             "N :9999 refs/heads/none": "fault 16:", "N :9999 main@{1}": "fault 3:", "N :9999 " + "1" * 40: "fault 14:", "N nothing": "fault 2:", "N x :1": "fault 2:",
              "M 644 :9999 ab\nC ab cd\nN :9999 :1": "cannot be followed", "N :9999 refs/notes/x": "no mark"}
     lines = []
     for place, line in enumerate(cases):
@@ -220,6 +220,23 @@ def notes_that_are_refused(room: Room) -> None:
         told = f"fault {verdict['fault']}:" if verdict["fault"] else verdict["meaning"]
         assert says in told and verdict["text"] == last and verdict["command"] == "commit refs/notes/x", (line, verdict)
     assert not os.path.exists(room.pool)
+
+
+@scene
+def lines_that_no_filter_reads(room: Room) -> None:
+    """What is malformed goes to the service as it is, and that refuses it; the filters never fail."""
+    long = b"9" * 5000
+    start = b"commit refs/heads/x\ncommitter A <a@b> 1 +0000\ndata 0\n"
+    for number, stream in (
+        (2, start + b"from\n"), (12, start + b"from :" + long + b"\n"), (10, start + b'D "\\777"\n'), (10, start + b'C "\\777" a\n'),
+        (10, start + b'M 644 inline "\\400"\ndata 0\n'), (23, start + b"M " + long + b" inline a\ndata 0\n"),
+        (12, b"blob\nmark :" + long + b"\ndata 0\n"), (12, start + b"M 644 :" + long + b" a\n"),
+        (22, b"commit refs/heads/x\ncommitter A <a@b> " + long + b" +0000\ndata 0\n"),
+        (22, b"feature date-format=raw\ncommit refs/heads/x\ncommitter A <a@b> 1 +" + long + b"\ndata 0\n"),
+        (22, b"feature date-format=rfc2822\ncommit refs/heads/x\ncommitter A <a@b> 1:" + long + b"\ndata 0\n"),
+    ):
+        said = text(imports(room, stream, "--filter", "all", status=1).stderr)
+        assert f"fault {number}:" in said, (stream[-60:], said)
 
 
 @scene

@@ -4,6 +4,8 @@ from __future__ import annotations
 import json
 from typing import Any, Dict, List
 
+from gitpool import PIECE
+
 from .conversions import commit, read, write
 from .room import Done, Room, Service, os, scene, signal, subprocess, text, wait_for
 from .tools import EXPORT_WORDS
@@ -100,8 +102,38 @@ def some_of_many_fail(room: Room) -> None:
 
 
 @scene
+def a_checkpoint_between_two_pieces(room: Room) -> None:
+    """A stream is fed in pieces. One that fails leaves its tenant as it was, although its only checkpoint is read in two halves."""
+    front = commit(1, "good", "", "M 644 inline f\ndata 1\nx").encode()
+    size = PIECE - len(front) - len(b"blob\ndata 1048000\n\n") - len(b"check")
+    late = front + b"blob\ndata %d\n%b\ncheckpoint\nfrobnicate\n" % (size, b"x" * size)
+    assert late[:PIECE].endswith(b"\ncheck")
+    write(room, "late", late)
+    write(room, "good", front)
+    imports_all(room, ["t good"])
+    room.client("gitpool-import", "-", "late", "--pool", room.pool, data=commit(1, "other", "", "").encode())
+    before = room.tenant_refs("late")
+    done = imports_all(room, ["t good", "late late"], status=1)
+    assert b"fault 2:" in done.stdout and room.tenant_refs("late") == before, done
+
+
+@scene
+def a_repository_that_is_refused_at_its_beginning(room: Room) -> None:
+    """The reason is told, although the rest of the export is never read."""
+    site = room.init("deep")
+    room.commit(site, "Deep", {"d/" * 300 + "f": "f\n"})
+    room.commit(site, "Large", {f"f{number}": f"{number}\n" * 50_000 for number in range(8)})
+    done = imports_all(room, [f"deep {site}"], "--json", "verdict", status=1)
+    told = verdicts(room)["imports"]["deep"]
+    assert told["fault"] == 25 and told["byte"] and b"fault 25:" in done.stdout and b"fast-export" not in done.stdout, done
+
+
+@scene
 def lists_that_are_refused(room: Room) -> None:
     write(room, "stream", b"blob\ndata 0\n")
+    imports_all(room, ["alone"], "--json", "verdict", status=1)
+    told = verdicts(room)
+    assert told["imports"] == {} and not told["saved"] and "this is no line" in told["meaning"], told
     for line, says in (("alone", "list:2: this is no line"), (" stream", "list:2: this is no line"),
                        ("b stream\nb stream", "list:3: the tenant b has")):
         said = text(imports_all(room, ["a stream", line], status=1).stderr)

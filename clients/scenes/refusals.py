@@ -65,6 +65,9 @@ def malformed_commits_are_refused(room: Room) -> None:
         commit_with(room, site, headers)
         room.fails(site, "push", room.url(), "refs/heads/bad", says="malformed headers")
     refused(room, site, "refs/heads/bad", "malformed headers")
+    commit_with(room, site, PEOPLE + b"x\x1b[2J yes")
+    said = room.fails(site, "push", room.url(), "refs/heads/bad", says="[remote rejected]")
+    assert "\x1b" not in said, said
 
 
 @scene

@@ -8,6 +8,8 @@ import shutil
 import socket
 import time
 
+from gitpool import Kind, Step, write_step
+
 from .room import NotTried, Room, os, scene, subprocess, text, wait_for
 
 
@@ -117,6 +119,21 @@ def over_ssh_a_program_that_is_killed(room: Room) -> None:
     assert "main -> main\n" not in said and room.tenant_refs() == before, said
     room.git(site, "push", "-q", "gitpool::ssh://host", "main", GIT_SSH_COMMAND=ssh)
     room.same(site)
+
+
+@scene
+def over_ssh_a_save_that_fails(room: Room) -> None:
+    """A disk that is full at the save is told as that, and not as another run."""
+    room.pushed()
+    before = room.pool_bytes()
+    steps = (Step(Kind.OPEN, b"t", b""), Step(Kind.FEED, b"t", b"blob\ndata 100000\n" + b"x" * 100_000), Step(Kind.END, b"t", b""))
+    words = ["gitpool-shell", "--pool", room.pool, "acme/site", "push"]
+    full = stand_in(room, "trap '' XFSZ\nulimit -f 50\nexec \"$PROGRAM\" \"$@\"")
+    done = room.run(words, data=b"".join(map(write_step, steps)), GITPOOL=full)
+    assert done.returncode == 4 and b"nothing was saved" in done.stderr and b"try again" not in done.stderr, done
+    assert room.pool_bytes() == before
+    done = room.run([*words[:-1], "fetch"], GITPOOL=room.path("none"))
+    assert done.returncode == 4 and done.stderr == b"gitpool cannot be run here: No such file or directory\n", done
 
 
 @scene

@@ -73,6 +73,12 @@ def an_export_of_other_things(room: Room) -> None:
     room.client("gitpool-export", "acme/site", "--pool", room.pool, "--into", room.path("into"))
     assert room.refs("into") == room.refs(site)
     exported(room, "nobody", "nothing")
+    # In a hook, git's environment names the repository of the hook, which is another one.
+    mine = room.init("mine")
+    done = room.run(["gitpool-export", "acme/site", "--pool", room.pool, "--into", room.path("into")], GIT_DIR=room.path(mine, ".git"),
+                    GIT_QUARANTINE_PATH=room.path(mine))
+    assert done.returncode == 0 and not room.refs(mine), done
+    assert room.git(mine, "symbolic-ref", "HEAD") == b"refs/heads/main\n" and room.refs("into") == room.refs(site)
     said = room.client("gitpool-export", "-bad", "--pool", room.pool, status=2).stderr
     said = room.client("gitpool-export", "a//b", "--pool", room.pool, status=1).stderr
     assert b"bad tenant name" in said and b"next step" in said, said
@@ -107,6 +113,13 @@ def an_import_sets_head(room: Room) -> None:
     assert room.git(mirror, "symbolic-ref", "HEAD") == b"refs/heads/master\n"
     said = room.client("gitpool-import", "-", "acme/site", "--pool", room.pool, data=stream).stderr
     assert b"HEAD" not in said, said
+    cut = (commit_text("Good", branch="refs/heads/trunk") + "checkpoint\nwhat\n").encode()
+    said = room.client("gitpool-import", "-", "cut", "--partial", "--pool", room.pool, data=cut, status=1).stderr
+    assert b"HEAD names refs/heads/trunk now" in said and room.tenant_head("cut") == "refs/heads/trunk", said
+    for words in ((), ("other", "--pool", room.pool, "--dry-run")):
+        done = room.client("gitpool-import", "-", *words, "--partial", "--json", "verdict", data=cut, status=1)
+        with open(room.path("verdict"), "rb") as file:
+            assert b"HEAD" not in done.stderr and b'"saved": false' in file.read(), done
 
 
 @scene
@@ -197,6 +210,10 @@ def tenants_of_a_pool(room: Room) -> None:
                    "zoo objects 2 bytes 7 own 1 refs 0 head refs/heads/x", "tenants 2"], out
     whole = room.pool_bytes()
     assert whole == before
+    odd = b"option gitpool head refs/heads/\xff\xc2\x9b\n"
+    room.client("gitpool-import", "-", "odd", "--pool", room.path("odd.pool"), data=odd + b"blob\ndata 0\n")
+    listed = room.run(["gitpool-tenants", room.path("odd.pool")], PYTHONIOENCODING="ascii:strict")
+    assert listed.stdout.splitlines()[0].endswith(b" refs 0 head refs/heads/\\xff\\xc2\\x9b"), listed
     for data, says in ((whole[:-1], "cut off"), (whole + b"x", "bytes follow"), (b"x" + whole, "no pool file"),
                        (whole[:8] + b"\0\0\0\7" + whole[12:], "version"), (whole[:40] + b"?" + whole[41:], ""), (b"", "cut off")):
         with open(room.path("other.pool"), "wb") as file:

@@ -50,6 +50,16 @@ class Dates(unittest.TestCase):
                 (b"1 0000", "raw", None), (b"1 +", "raw", None), (b"x", "now", None)):
             self.assertEqual(raw_date(date, form), wanted, date)
 
+    def test_numbers_of_any_length(self) -> None:
+        """Python reads no number of more than 4,300 digits."""
+        long = "9" * 5000
+        for date in (long, f"{long}:1:1", f"1:{long}", f"1-1-{long}", f"@{long} +0000", f"1 Jan 2007 11:22:18 +{long}x"):
+            mail(date)
+        self.assertIsNone(mail(long))
+        self.assertEqual(mail("Tue Feb 6 11:22:18 2007 +" + "0" * 5000), mail("Tue Feb 6 11:22:18 2007 +00000"))
+        self.assertEqual(raw_date(b"1 +" + b"9" * 5000, "raw-permissive"), b"1 +0000")
+        self.assertEqual(raw_date(b"1 +" + b"0" * 5000 + b"130", "raw"), b"1 +0130")
+
     def test_now(self) -> None:
         found = raw_date(b"now", "now")
         assert found

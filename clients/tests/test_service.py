@@ -1,9 +1,13 @@
 """A service over the program that GITPOOL names."""
+import contextlib
+import fcntl
+import hashlib
 import os
 import shutil
+import signal
 import tempfile
 import unittest
-from typing import Callable, List, Tuple
+from typing import Callable, Iterator, List, Tuple
 
 import gitpool
 from gitpool import Fault, Kind, PoolBusy, Service, ServiceError, Step
@@ -88,6 +92,44 @@ class OverAPool(unittest.TestCase):
             self.assertEqual(list(service.ask_many("t", [])), [])
             with self.assertRaises(Fault):
                 list(service.objects("t", [b"1" * 40]))
+
+    def test_pipes_of_a_page(self) -> None:
+        """A user who has many pipes gets small ones. Neither side waits for the other then."""
+        with Service() as service:
+            stream = b"".join(b"blob\ndata 9000\n" + b"%09000d" % number + b"\n" for number in range(500))
+            service.import_stream("t", [stream + b"commit refs/heads/main\ncommitter A <a@b> 1 +0000\ndata 0\n"])
+            for way in (service._in, service._out):
+                fcntl.fcntl(way.fileno(), 1031, 4096)  # F_SETPIPE_SZ
+            names = [hashlib.sha1(b"blob 9000\0%09000d" % number).hexdigest().encode() for number in range(500)]
+            with self.ended_in(60):
+                self.assertEqual([contents[-4:] for _, contents in service.objects("t", names)], [b"%04d" % it for it in range(500)])
+                self.assertEqual([it.status for it in service.ask_many("t", [b"cat " + name for name in names])], [0] * 500)
+                listing = service.missing("t", names)
+                self.assertEqual(len(listing), 500)
+                self.assertGreater(sum(len(it) for it in service.entries("t", listing)), 500 * 9000)
+
+    @staticmethod
+    @contextlib.contextmanager
+    def ended_in(seconds: int) -> Iterator[None]:
+        """Raises AssertionError where what is done takes longer."""
+        def stop(_number: int, _frame: object) -> None:
+            raise AssertionError(f"this takes longer than {seconds} seconds")
+
+        before = signal.signal(signal.SIGALRM, stop)
+        signal.alarm(seconds)
+        try:
+            yield
+        finally:
+            signal.alarm(0)
+            signal.signal(signal.SIGALRM, before)
+
+    def test_a_service_that_has_ended(self) -> None:
+        service = Service()
+        service.close()
+        for ask in (lambda: service.ask_many("t", [b"refs"]), lambda: service.objects("t", [NAME.encode()])):
+            with self.assertRaises(ServiceError) as caught:
+                list(ask())
+            self.assertIn("closed", str(caught.exception))
 
     def test_told_while_importing(self) -> None:
         with Service() as service:

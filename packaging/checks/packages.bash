@@ -23,7 +23,9 @@ versions_of_packages_sort() {
   cd "$room/one"
   before=$(bash -c '. packaging/tree; version_of_package')
   touch new
+  git config status.showUntrackedFiles no
   changed=$(bash -c '. packaging/tree; version_of_package')
+  git config --unset status.showUntrackedFiles
   rm new
   git tag "v$version"
   tagged=$(bash -c '. packaging/tree; version_of_package')
@@ -49,6 +51,7 @@ packages_have_the_same_bytes() {
   ! has_server || count=$((count + 1))
   [ ${#library[@]} = 0 ] || count=$((count + 4))
   export GOCACHE=$room/gocache
+  chmod go-rwx "$room/one/LICENSE" "$room"/one/bindings/python/examples/*
   (umask 077; cd "$room/one"; HOME=/ TZ=Asia/Tokyo LC_ALL=C ./package "${words[@]}" "$room/out one")
   mkdir -m 2777 "$room/tmp/of a group"
   cd "$room/two/of a longer name"

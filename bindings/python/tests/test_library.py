@@ -16,8 +16,8 @@ from gitpool_library import Kind, PoolBusy, Service, Step
 TOP = os.path.join(os.path.dirname(os.path.abspath(__file__)), "..", "..", "..")
 BLOB = b"blob\nmark :1\ndata 6\nhello\n\nget-mark :1\n"
 
-# What this module does not have: another program, and the frame by which a save writes what a tenant had when its stream was opened.
-OTHERS = {"test_a_program_that_writes_no_answers", "test_a_save_of_what_was_there_when_a_stream_was_opened"}
+# What this module does not have: another program, its pipes, and the frame by which a save writes what a tenant had when its stream was opened.
+OTHERS = {"test_a_program_that_writes_no_answers", "test_a_save_of_what_was_there_when_a_stream_was_opened", "test_pipes_of_a_page"}
 
 
 def tests_of_clients() -> Type[unittest.TestCase]:

@@ -1,6 +1,6 @@
 //! A service: the repositories and streams of any number of tenants.
 
-use std::io::Read;
+use std::io::{ErrorKind, Read};
 
 use crate::error::{Error, ImportError, OUT_OF_MEMORY};
 use crate::handles::{ReplyHandle, ServiceHandle};
@@ -181,7 +181,10 @@ impl Service {
         let mut piece = vec![0; PIECE];
         let mut printed = Vec::new();
         loop {
-            let length = reader.read(&mut piece)?;
+            let length = match reader.read(&mut piece) {
+                Err(error) if error.kind() == ErrorKind::Interrupted => continue,
+                told => told?,
+            };
             if length == 0 {
                 return Ok(printed);
             }
@@ -201,7 +204,7 @@ impl Service {
         Ok(reply)
     }
 
-    /// The name of the object that an expression of gitrevisions(7) names. Refused with 3, 15, 16, 17 or 41.
+    /// The name of the object that an expression of gitrevisions(7) names. Refused with 15, 16, 17 or 41.
     pub fn resolve(&mut self, tenant: impl AsRef<[u8]>, expression: impl AsRef<[u8]>) -> Result<ObjectName, Error> {
         let reply = self.ask_of(tenant.as_ref(), b"rev-parse ", expression.as_ref())?;
         Ok(reply.strip_suffix(b"\n").and_then(ObjectName::read).expect("a reply to `rev-parse` is the name of an object"))

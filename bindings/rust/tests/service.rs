@@ -98,6 +98,25 @@ impl Read for Broken {
     }
 }
 
+/// A reader that a signal interrupts once, and that has nothing else.
+struct Interrupted(bool);
+
+impl Read for Interrupted {
+    fn read(&mut self, _: &mut [u8]) -> io::Result<usize> {
+        if std::mem::replace(&mut self.0, true) {
+            return Ok(0);
+        }
+        Err(io::ErrorKind::Interrupted.into())
+    }
+}
+
+#[test]
+fn goes_on_after_a_signal() {
+    let mut service = Service::new().unwrap();
+    let printed = service.import("t", Interrupted(false).chain(BLOB)).unwrap();
+    assert_eq!(printed, format!("{HELLO}\n").as_bytes());
+}
+
 #[test]
 fn leaves_no_stream_after_an_import_that_failed() {
     let mut service = Service::new().unwrap();
