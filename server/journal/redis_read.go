@@ -24,7 +24,8 @@ type BadLog struct {
 	// IsTaken says that the log is as it should be, and that another server has it. NeedsCopy says that it is as it should be, and that
 	// this server, which follows it, has to begin from a newer pool file.
 	IsTaken, NeedsCopy bool
-	// MayHaveLost says of a log that another server has that it begins behind what this server had, so nobody can tell whether it had all of it.
+	// MayHaveLost says of a log that another server has that it begins after the last record of this server. So nobody can tell whether it had
+	// all of them.
 	MayHaveLost bool
 }
 

@@ -94,7 +94,7 @@ func (r *Redis) putAndWait(conn redis.Conn, behind mark, batch []queued) error {
 	return r.waitForReplicas(conn, lastOf(behind, batch), len(batch) > 0)
 }
 
-// lastOf is where a log ends that has a batch behind a mark.
+// lastOf is where a log ends that has a batch after a mark.
 func lastOf(behind mark, batch []queued) mark {
 	if len(batch) == 0 {
 		return behind

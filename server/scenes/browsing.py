@@ -327,3 +327,17 @@ PATHS: List[str] = [
     "/acme/./site", "/acme/../site", "/%2e%2e/site", "/acme/site.git.git", "/acme/.site", "/acme/-site", "/acme/s!te", "/favicon.ico", "/robots.txt",
     "/" + "a" * 65, "/acme/site/-/tree/main:index.html/x", "/acme/site/-/raw/main:css", "/acme/site/-/raw/main", "/%ff", "/acme/site/-/log/%ff%fe",
 ]
+
+
+@over_http
+def files_larger_than_answers_may_be(room: ServerRoom) -> None:
+    """What waits for a slow reader is bounded: a file that is larger alone is refused, and a smaller one comes."""
+    site = room.pushed()
+    room.commit(site, "Files", {"large": "x" * 5000, "small": "x"})
+    room.git(site, "push", "-q", "pool", "main")
+    room.serverd("limits", room.served, "answer-bytes", "4K")
+    refused = ask(room, SITE + "/-/raw/main:large", "alice")
+    assert refused.status == 429 and b"answer-bytes" in refused.body, refused
+    assert ask(room, SITE + "/-/raw/main:small", "alice").body == b"x"
+    room.serverd("limits", room.served, "answer-bytes", "default")
+    assert ask(room, SITE + "/-/raw/main:large", "alice").body == b"x" * 5000

@@ -113,7 +113,7 @@ func (s *Store) renamePool() error {
 
 // writeAndBegin has the child write the pool file, and begins the segment of what comes after it. No step comes in between, so what is in
 // the file and what is in the segment are parted for all tenants at one place. The child answers nobody while it writes; a second one may.
-// It tells whether a stream had been given up for want of memory.
+// It tells whether a stream had been given up because the child had no memory for it.
 func (s *Store) writeAndBegin(ctx context.Context) (hadStarved bool, err error) {
 	open, err := s.shutForSave(ctx)
 	if err != nil {
