@@ -104,6 +104,11 @@ debian_packages_are_well_formed() {
   done
 }
 
+# has_licence_of NAME FILE: the file has the licence of what is linked into an executable.
+has_licence_of() {
+  grep -A 12 "^The executable contains parts of $1:" "$2" | grep -c "^Copyright:" > /dev/null || { echo "no licence of $1"; return 1; }
+}
+
 # The package of the server, beside that of the program.
 server_package_serves() {
   dpkg-deb -x "$(deb gitpool-server)" "$room/root"
@@ -116,6 +121,9 @@ server_package_serves() {
     [ -e "$room/root$it" ] || { echo "no $it"; return 1; }
   done
   cmp "$room/root/usr/share/doc/gitpool-server/redis.conf" "$top/server/redis.conf"
+  for it in Go golang-{golang-x-crypto,golang-x-sync,github-{gomodule-redigo,klauspost-compress,yuin-goldmark,hexops-gotextdiff}}-dev; do
+    has_licence_of "$it" "$room/root/usr/share/doc/gitpool-server/copyright"
+  done
 }
 
 # Links the static executable, where the object is there.

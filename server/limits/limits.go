@@ -26,6 +26,9 @@ type Limits struct {
 	answers map[string]int64
 	// lines and spools have the bytes of lines that the requests of a user hold, and of the temporary files of its pushes.
 	lines, spools map[string]int64
+	// fetches has the bytes of the lists that the fetches of a user hold, and rooms what their large entries may have.
+	fetches map[string]int64
+	rooms   map[string]*room
 }
 
 // Load reads the limits of a folder. `tell` gets a line for the operator where they cannot be read later on.
@@ -35,7 +38,8 @@ func Load(folder string, tell func(format string, values ...any)) (*Limits, erro
 	if err != nil {
 		return nil, err
 	}
-	return &Limits{values: followed, counts: map[string]int{}, answers: map[string]int64{}, lines: map[string]int64{}, spools: map[string]int64{}}, nil
+	return &Limits{values: followed, counts: map[string]int{}, answers: map[string]int64{}, lines: map[string]int64{}, spools: map[string]int64{},
+		fetches: map[string]int64{}, rooms: map[string]*room{}}, nil
 }
 
 // Get gives the limits as they are now.
@@ -236,7 +240,7 @@ type Values struct {
 	DailyBytes                                     int64
 	SaveEvery, FrameIdle, DailyChild               time.Duration
 	StreamBytes, AnswerBytes, LineBytes            int64
-	SpoolBytes, DiskReserve                        int64
+	FetchBytes, SpoolBytes, DiskReserve            int64
 	StreamAge                                      time.Duration
 	StreamsByUser, StreamsByTenant                 int
 	Quotas, UserBytes                              map[string]int64

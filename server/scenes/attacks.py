@@ -309,7 +309,7 @@ def silent_peers(room: ServerRoom) -> None:
 
 @over_http
 def readers_that_stop(room: ServerRoom) -> None:
-    """Clients that ask for a large pack and read none of it take no memory that grows with it."""
+    """Clients of one user that ask for a large pack and read none of it take no more memory than `answer-bytes` says, and others are served."""
     site = room.init("site")
     with open(room.path(site, "noise"), "wb") as file:
         file.write(os.urandom(48 * MIB))
@@ -318,16 +318,20 @@ def readers_that_stop(room: ServerRoom) -> None:
     before, main = room.tenant_refs(), room.name(site, "main").encode()
     body = line(b"want %b side-band-64k\n" % main) + b"0000" + line("done\n")
     peers = []
-    for _ in range(4):
+    for _ in range(24):
         peer = room.socket()
         peer.sendall(b"POST /acme/site.git/git-upload-pack HTTP/1.1\r\nHost: x\r\nContent-Type: application/x-git-upload-pack-request\r\n"
                      b"Content-Length: %d\r\n%b\r\n%b" % (len(body), room.basic(), body))
         peers.append(peer)
     time.sleep(2)
     asks(room, before)
-    assert room.memory() < 900 * MIB, room.memory() // MIB
+    assert room.memory() < 750 * MIB, room.memory() // MIB
+    room.git("", "clone", "-q", room.url(user="bob"), room.path("others"))
+    assert room.name("others", "HEAD").encode() == main
     for peer in peers:
         peer.close()
+    room.git("", "clone", "-q", room.url(), room.path("again"))
+    assert room.name("again", "HEAD").encode() == main
 
 
 @once

@@ -5,7 +5,7 @@ import json
 import os
 from typing import List
 
-from served import TOP, ServerRoom, once, over_http, text
+from served import TOP, ServerRoom, once, over_http, scene, text
 
 PEOPLE = b"author A <a@b> 1 +0000\ncommitter A <a@b> 1 +0000\n"
 
@@ -154,6 +154,21 @@ def lines_of_pushes_are_bounded(room: ServerRoom) -> None:
     room.git(site, "push", "-q", room.url(), "b1", "b2")
     room.serverd("limits", room.served, "line-bytes", "default")
     room.git(site, "push", "-q", room.url(), "refs/heads/b*:refs/heads/b*")
+    room.same(site)
+
+
+@scene
+def lists_of_fetches_are_bounded(room: ServerRoom) -> None:
+    """A fetch that lists more objects, or walks more commits, than its user's fetches may hold is refused, and git shows why; then it is served."""
+    site = room.pushed()
+    for at in range(40):
+        room.git(site, "commit", "-q", "--allow-empty", "-m", f"Commit {at}")
+    room.git(site, "push", "-q", "pool", "main")
+    room.serverd("limits", room.served, "fetch-bytes", "2K")
+    says = "this user's fetches hold as many bytes as `fetch-bytes` says"
+    room.fails("", "clone", "-q", room.url(), room.path("refused"), says=says)
+    room.fails("", "clone", "-q", "--depth", "30", room.url(), room.path("refused"), says=says)
+    room.serverd("limits", room.served, "fetch-bytes", "default")
     room.same(site)
 
 

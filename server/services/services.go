@@ -78,7 +78,8 @@ func (u Use) Serve(ctx context.Context, isStateless bool) error {
 	defer held.Free()
 	if u.Service == UploadPack {
 		in := bufio.NewReaderSize(u.In, 1<<16)
-		return uploadpack.Server{MaySend: u.mayGoOn, Lines: held}.Serve(ctx, u.Tenant, in, u.Out, u.Version, isStateless)
+		server := uploadpack.Server{MaySend: u.mayGoOn, Lines: held, Memory: u.memory}
+		return server.Serve(ctx, u.Tenant, in, u.Out, u.Version, isStateless)
 	}
 	in := bufio.NewReaderSize(&refusing{from: u.In, mayGoOn: u.mayGoOn}, 1<<16)
 	spool := u.Site.Limits.Spool(u.User, u.Address)
@@ -96,20 +97,26 @@ func (u Use) Serve(ctx context.Context, isStateless bool) error {
 // lines tells a client in a sentence that its user's requests hold too many lines.
 type lines struct{ *limits.Held }
 
-func (l lines) Hold(bytes int64) error {
-	if err := l.Held.Hold(bytes); err != nil {
+func (l lines) Hold(bytes int64) error { return told(l.Held.Hold(bytes)) }
+
+// fetch tells a client in a sentence that its user's fetches hold too much.
+type fetch struct{ limits.Fetch }
+
+func (f fetch) Hold(bytes int64) error { return told(f.Fetch.Hold(bytes)) }
+
+// memory counts what a fetch holds that begins.
+func (u Use) memory() uploadpack.Memory { return fetch{u.Site.Limits.Fetch(u.User, u.Address)} }
+
+// told makes a refusal of an error, with its sentence.
+func told(err error) error {
+	if err != nil {
 		return uploadpack.Refused{Why: err.Error()}
 	}
 	return nil
 }
 
 // mayGoOn refuses what goes beyond what the user may take in a day.
-func (u Use) mayGoOn() error {
-	if err := u.Meter.Err(); err != nil {
-		return uploadpack.Refused{Why: err.Error()}
-	}
-	return nil
-}
+func (u Use) mayGoOn() error { return told(u.Meter.Err()) }
 
 // mayGrow gives what lets the temporary file of a push, and the list of what its pack has, grow: as far as its user's pushes may have them, and the
 // journal keeps its room on the disk.
@@ -119,10 +126,7 @@ func (u Use) mayGrow(spool *limits.Held) func(bytes int64) error {
 		if err == nil {
 			err = spool.Hold(bytes)
 		}
-		if err != nil {
-			return uploadpack.Refused{Why: err.Error()}
-		}
-		return nil
+		return told(err)
 	}
 }
 

@@ -134,6 +134,15 @@ func (t *table) isReady() bool {
 	return !t.isUnread && !t.journal.IsBroken()
 }
 
+// isLeftUnread tells whether the log could not be read. It does not wait for a table that is being read.
+func (t *table) isLeftUnread() bool {
+	if !t.writers.TryRLock() {
+		return false
+	}
+	defer t.writers.RUnlock()
+	return t.isUnread
+}
+
 // append appends records to the log. The writers' lock is held.
 func (t *table) append(steps ...frames.Step) (number uint64, err error) {
 	if t.isUnread {

@@ -439,12 +439,13 @@ func (s *Set) Usages() (all []store.Usage) {
 // ShardOf gives the number of the shard in which a tenant is; 1 for one that was never pushed to.
 func (s *Set) ShardOf(tenant string) int { return s.shardOf(tenant) }
 
-// States tells how each shard stands. Where the table of places takes no records, the first one's journal is told to be broken.
+// States tells how each shard stands. Where the table of places takes no records, or has not what its log has, the first one's journal is told to be
+// broken.
 func (s *Set) States() (all []store.State) {
 	for _, it := range s.stores {
 		all = append(all, it.State())
 	}
-	if s.table != nil && s.table.journal.IsBroken() {
+	if s.table != nil && (s.table.journal.IsBroken() || s.table.isLeftUnread()) {
 		all[0].JournalBroken = true
 	}
 	return all

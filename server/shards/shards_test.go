@@ -367,8 +367,8 @@ func TestATableThatCannotBeReadStays(t *testing.T) {
 	if err := s.table.read(); err != journal.ErrUnread {
 		t.Fatal(err)
 	}
-	if is := s.ShardOf("a") + 10*s.ShardOf("b"); is != was || s.table.isReady() {
-		t.Fatal("the table has other places, or takes records:", is)
+	if is := s.ShardOf("a") + 10*s.ShardOf("b"); is != was || s.table.isReady() || !s.States()[0].JournalBroken {
+		t.Fatal("the table has other places, or takes records, or nothing tells of it:", is)
 	}
 	if err := push(s, "c", "m0"); !errors.Is(err, journal.ErrAway) {
 		t.Fatal("a tenant has a place in a table that was not read:", err)
@@ -376,7 +376,7 @@ func TestATableThatCannotBeReadStays(t *testing.T) {
 	must(t, push(s, "b", "m1"))
 	log.left = 1
 	s.readAgain(s.table)
-	if is := s.ShardOf("a") + 10*s.ShardOf("b"); is != was || !s.table.isReady() {
+	if is := s.ShardOf("a") + 10*s.ShardOf("b"); is != was || !s.table.isReady() || s.States()[0].JournalBroken {
 		t.Fatal("the table is not read again:", is)
 	}
 	must(t, push(s, "c", "m0"))

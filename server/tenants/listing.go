@@ -14,7 +14,11 @@ import (
 // Listing has objects with their kinds and sizes, as the child lists them: 29 bytes for each.
 type Listing []byte
 
-const listedBytes = 29
+const (
+	listedBytes = 29
+	// heldBytes is what is counted for each: a list grows beyond its size, and what is left out of it stands beside it for a while.
+	heldBytes = 64
+)
 
 // Len is how many objects a listing has.
 func (l Listing) Len() int { return len(l) / listedBytes }
@@ -148,6 +152,9 @@ func (t Tenant) missing(ctx context.Context, wants, haves []Name) (Listing, erro
 	if err == nil && len(reply)%listedBytes != 0 {
 		err = errAnswer
 	}
+	if err == nil {
+		err = Hold(ctx, int64(len(reply)/listedBytes)*heldBytes)
+	}
 	return reply, err
 }
 
@@ -162,37 +169,85 @@ func appendNames(to []byte, names []Name) []byte {
 const entriesAtOnce = 1 << 17
 
 // Entries calls `use` with the entries of a pack that has these objects, an eighth of a megabyte or one object at a time; it asks for the next ones while
-// `use` has those before. An object that the tenant has not gives ErrMissing; an error of `use` ends the call and is given back.
+// `use` has those before. A larger object is counted in the memory of the context while it is held, and is asked for once it may be. An object that the
+// tenant has not gives ErrMissing; an error of `use` ends the call and is given back.
 func (t Tenant) Entries(ctx context.Context, objects Listing, use func(entries []byte) error) error {
 	ctx, stop := context.WithCancel(ctx)
 	defer stop()
-	rest, next := t.askEntries(ctx, objects)
-	for next != nil {
-		entries, err := next()
-		if err != nil {
+	s := sending{tenant: t, memory: memoryOf(ctx), rest: objects, giveBack: nothing}
+	defer func() { s.giveBack() }()
+	for s.wait != nil || s.rest.Len() > 0 {
+		if err := s.ask(ctx); err != nil {
 			return err
 		}
-		rest, next = t.askEntries(ctx, rest)
-		if err := use(entries); err != nil {
+		if err := s.send(ctx, use); err != nil {
 			return err
 		}
 	}
 	return nil
 }
 
-// askEntries begins to ask for the first entries. It gives the objects after them, and the call that waits for the entries, or nil where
-// there are none.
-func (t Tenant) askEntries(ctx context.Context, objects Listing) (rest Listing, wait func() ([]byte, error)) {
-	count, size := firstEntries(objects)
-	if count == 0 {
-		return nil, nil
+// sending has the entries of a pack on their way.
+type sending struct {
+	tenant   Tenant
+	memory   Memory
+	rest     Listing                // what was not asked for
+	wait     func() ([]byte, error) // for the entries that were asked for; nil where there are none
+	giveBack func()                 // counts these no more
+}
+
+func nothing() {}
+
+// ask waits until there is memory for the next entries, and asks for them, unless that was done.
+func (s *sending) ask(ctx context.Context) (err error) {
+	count, size := firstEntries(s.rest)
+	giveBack := nothing
+	switch {
+	case s.wait != nil:
+		return nil
+	case size > entriesAtOnce:
+		giveBack, err = s.memory.Take(ctx, int64(size))
 	}
+	if err == nil {
+		s.begin(ctx, count, size, giveBack)
+	}
+	return err
+}
+
+// tryAsk does not wait.
+func (s *sending) tryAsk(ctx context.Context) {
+	count, size := firstEntries(s.rest)
+	giveBack := nothing
+	if size > entriesAtOnce {
+		giveBack = s.memory.TryTake(int64(size))
+	}
+	if count > 0 && giveBack != nil {
+		s.begin(ctx, count, size, giveBack)
+	}
+}
+
+// send waits for the entries that were asked for, asks for the next ones, and lets `use` have these.
+func (s *sending) send(ctx context.Context, use func(entries []byte) error) error {
+	wait, giveBack := s.wait, s.giveBack
+	s.wait, s.giveBack = nil, nothing
+	defer giveBack()
+	entries, err := wait()
+	if err != nil {
+		return err
+	}
+	s.tryAsk(ctx)
+	return use(entries)
+}
+
+// begin asks for the first entries of the rest.
+func (s *sending) begin(ctx context.Context, count int, size uint64, giveBack func()) {
 	body := binary.BigEndian.AppendUint64(make([]byte, 0, 8+len(Name{})*count), size)
 	for at := 0; at < count; at++ {
-		body = append(body, objects[at*listedBytes:at*listedBytes+len(Name{})]...)
+		body = append(body, s.rest[at*listedBytes:at*listedBytes+len(Name{})]...)
 	}
-	answers := t.send(ctx, child.Bulk, frames.Step{Kind: frames.Entries, Tenant: t.name, Body: body})
-	return objects[count*listedBytes:], func() ([]byte, error) {
+	answers := s.tenant.send(ctx, child.Bulk, frames.Step{Kind: frames.Entries, Tenant: s.tenant.name, Body: body})
+	s.rest, s.giveBack = s.rest[count*listedBytes:], giveBack
+	s.wait = func() ([]byte, error) {
 		all, err := answers()
 		if err != nil {
 			return nil, err

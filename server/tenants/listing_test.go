@@ -3,11 +3,16 @@ package tenants
 import (
 	"bytes"
 	"compress/zlib"
+	"context"
 	"errors"
 	"fmt"
 	"io"
 	"strings"
 	"testing"
+
+	"gitpoold/child"
+	"gitpoold/frames"
+	"gitpoold/store"
 )
 
 // edges are sizes at which an entry has another form.
@@ -225,6 +230,137 @@ func TestEntriesEndWithTheirUse(t *testing.T) {
 	wrong := Listing{}.With(commit, Commit, 1)
 	if err := it.Entries(background, wrong, func([]byte) error { return nil }); err != (Fault{25}) {
 		t.Fatal(err)
+	}
+}
+
+// counting is a memory of so many bytes of entries, of one fetch.
+type counting struct {
+	t          *testing.T
+	room       int64
+	held       int64
+	taken      int64
+	took, left int // how often there was room, and how often not
+}
+
+func (c *counting) Hold(bytes int64) error {
+	c.held += bytes
+	return nil
+}
+
+// Take does not wait: who waits for itself waits forever.
+func (c *counting) Take(_ context.Context, bytes int64) (func(), error) {
+	giveBack := c.TryTake(bytes)
+	if giveBack == nil {
+		c.t.Error("a fetch waits for itself")
+		return nil, errAnswer
+	}
+	return giveBack, nil
+}
+
+func (c *counting) TryTake(bytes int64) func() {
+	if c.taken+bytes > c.room {
+		c.left++
+		return nil
+	}
+	c.took++
+	c.taken += bytes
+	return func() { c.taken -= bytes }
+}
+
+// TestLargeEntriesTakeMemory sends entries with memory for the largest one alone, and with memory for all of them, to the end and not.
+func TestLargeEntriesTakeMemory(t *testing.T) {
+	it, commit := edgy(t, pool(t, 0), "acme/site")
+	listed := &counting{t: t}
+	listing, err := it.Missing(Counted(background, listed), []Name{commit}, nil)
+	if err != nil || listed.held != int64(listing.Len()*heldBytes) {
+		t.Fatal(listed.held, err)
+	}
+	stop := errors.New("enough")
+	largest := int64(entryBytes(3_000_000))
+	for _, c := range []*counting{{room: largest}, {room: 10 * largest}} {
+		for _, end := range []error{nil, stop} {
+			c.t, c.took, c.left = t, 0, 0
+			err := it.Entries(Counted(background, c), listing, func(entries []byte) error {
+				if len(entries) > entriesAtOnce && c.taken < int64(len(entries)) {
+					t.Error(len(entries), c.taken)
+				}
+				if len(entries) > 1<<20 {
+					return end
+				}
+				return nil
+			})
+			if err != end || c.taken != 0 || c.took == 0 || (c.left > 0) != (c.room == largest) {
+				t.Fatalf("%v: %+v", err, c)
+			}
+		}
+	}
+}
+
+// measured notes how many bytes the answers to a batch had at most.
+type measured struct {
+	Keeper
+	most int
+}
+
+type measuredAnswers struct {
+	store.Answers
+	of *measured
+}
+
+func (m *measured) Ask(ctx context.Context, class child.Class, steps ...frames.Step) (store.Answers, error) {
+	answers, err := m.Keeper.Ask(ctx, class, steps...)
+	return measuredAnswers{answers, m}, err
+}
+
+func (m measuredAnswers) Wait(ctx context.Context) ([]frames.Answer, error) {
+	answers, err := m.Answers.Wait(ctx)
+	bytes := 0
+	for _, it := range answers {
+		bytes += len(it.Reply)
+	}
+	if bytes > m.of.most {
+		m.of.most = bytes
+	}
+	return answers, err
+}
+
+// TestLargerObjectsThanBefore asks for small objects, and then for many large ones, of which those come again for which there is no room.
+func TestLargerObjectsThanBefore(t *testing.T) {
+	p := pool(t, 0)
+	m := &measured{Keeper: p.store}
+	p.store = m
+	it := tenant(t, p, "acme/site")
+	var names []Name
+	err := it.Push(background, agree, func(s *Stream) error {
+		for at := 1; at <= 100; at++ {
+			size := 10
+			if at > 20 {
+				size = 300_000
+			}
+			fmt.Fprintf(s, "blob\nmark :%d\ndata %d\n%0*d\n", at, size, size, at)
+		}
+		for at := 1; at <= 100; at++ {
+			name, err := s.Name(fmt.Sprintf(":%d", at))
+			if err != nil {
+				return err
+			}
+			names = append(names, name)
+		}
+		return nil
+	})
+	if err != nil {
+		t.Fatal(err)
+	}
+	count := 0
+	err = it.Objects(background, names, func(o Object) error {
+		if o.Name != names[count] || strings.TrimLeft(string(o.Contents), "0") != fmt.Sprint(count+1) {
+			t.Fatal(count, len(o.Contents))
+		}
+		count++
+		return nil
+	})
+	if err != nil || count != len(names) || m.most > mostBytes+400_000 {
+		t.Fatal(count, m.most, err)
 	}
 }
 

@@ -74,14 +74,15 @@ var ErrMissing = errors.New("the repository has no object of this name")
 var errAnswer = errors.New("the program that keeps the pool gave an answer of another form")
 
 // Objects asks for objects in windows of bytes: about windowBytes of answers are with one caller at once, by the mean size of
-// those before.
+// those before. Where the next ones are larger, those are asked for again that come after mostBytes.
 const (
 	windowBytes = 1 << 19
 	windowNames = 64
+	mostBytes   = 2 * windowBytes
 )
 
-// Objects calls `use` with each object, in the order of the names. It holds a window of half a megabyte at once, or one object
-// where that is larger, and asks for the next window while `use` has the one before. A name that the tenant has not gives
+// Objects calls `use` with each object, in the order of the names. It holds a window of half a megabyte at once, at most a megabyte and
+// one object more, and asks for the next window while `use` has the one before. A name that the tenant has not gives
 // ErrMissing; an error of `use` ends the call and is given back.
 func (t Tenant) Objects(ctx context.Context, names []Name, use func(Object) error) error {
 	ctx, stop := context.WithCancel(ctx)
@@ -93,8 +94,8 @@ func (t Tenant) Objects(ctx context.Context, names []Name, use func(Object) erro
 		if err != nil {
 			return err
 		}
-		asked := names[:count]
-		names = names[count:]
+		asked := names[:len(answers)]
+		names = names[len(answers):]
 		count = first(names, window(answers))
 		next = t.askObjects(ctx, names[:count])
 		if err := useObjects(asked, answers, use); err != nil {
@@ -130,7 +131,7 @@ func (t Tenant) askObjects(ctx context.Context, names []Name) func() ([]frames.A
 	for i, name := range names {
 		queries[i] = "cat " + name.String()
 	}
-	return t.begin(ctx, child.Bulk, queries)
+	return t.begin(child.InRoom(ctx, mostBytes), child.Bulk, queries)
 }
 
 func useObjects(names []Name, answers []frames.Answer, use func(Object) error) error {

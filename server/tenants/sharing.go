@@ -14,70 +14,128 @@ type listings struct {
 	made  map[string]*sharedListing
 }
 
-// sharedListing is a listing on its way, and how many fetches wait for it.
+// sharedListing is a listing on its way, and the fetches that wait for it. Each of them counts all of it as its own.
 type sharedListing struct {
-	waiting int
+	endless
+	of      *listings
+	key     string
+	waiting map[*waiter]bool
+	bytes   int64 // that were counted so far
 	stop    context.CancelFunc
 	done    chan struct{}
 	listing Listing
 	err     error
 }
 
+// waiter is a fetch that waits for a listing. `refused` is closed where it may not hold as much, with the reason in `err`.
+type waiter struct {
+	memory  Memory
+	isFirst bool
+	refused chan struct{}
+	err     error
+}
+
 // share gives the listing that `list` makes, or the one of another fetch that has the same key. The listing is made as long as somebody waits
 // for it. Nobody may change it.
 func (l *listings) share(ctx context.Context, key string, list func(context.Context) (Listing, error)) (Listing, error) {
-	it, isFirst := l.join(ctx, key, list)
+	it, w, err := l.join(ctx, key, list)
+	if err != nil {
+		return nil, err
+	}
 	select {
 	case <-it.done:
+	case <-w.refused:
 	case <-ctx.Done():
-		l.leave(key, it)
+		l.leave(it, w)
 		return nil, ctx.Err()
 	}
-	if it.err != nil && !isFirst {
+	if err := l.refusal(w); err != nil {
+		return nil, err
+	}
+	if it.err != nil && !w.isFirst {
 		return list(ctx)
 	}
 	return it.listing, it.err
 }
 
-func (l *listings) join(ctx context.Context, key string, list func(context.Context) (Listing, error)) (it *sharedListing, isFirst bool) {
+func (l *listings) join(ctx context.Context, key string, list func(context.Context) (Listing, error)) (it *sharedListing, w *waiter, err error) {
 	l.mutex.Lock()
 	defer l.mutex.Unlock()
+	w = &waiter{memory: memoryOf(ctx), refused: make(chan struct{})}
 	if it = l.made[key]; it == nil {
-		making, stop := context.WithCancel(child.Endless(ctx))
-		it, isFirst = &sharedListing{stop: stop, done: make(chan struct{})}, true
-		if l.made == nil {
-			l.made = map[string]*sharedListing{}
-		}
-		l.made[key] = it
-		go l.make(making, key, it, list)
+		w.isFirst = true
+		it = l.begin(ctx, key, list)
 	}
-	it.waiting++
-	return it, isFirst
+	if err = w.memory.Hold(it.bytes); err != nil {
+		l.drop(it, w)
+		return it, w, err
+	}
+	it.waiting[w] = true
+	return it, w, nil
 }
 
-func (l *listings) make(ctx context.Context, key string, it *sharedListing, list func(context.Context) (Listing, error)) {
+// begin begins to make a listing; the mutex is held.
+func (l *listings) begin(ctx context.Context, key string, list func(context.Context) (Listing, error)) *sharedListing {
+	making, stop := context.WithCancel(child.Endless(ctx))
+	it := &sharedListing{of: l, key: key, waiting: map[*waiter]bool{}, stop: stop, done: make(chan struct{})}
+	if l.made == nil {
+		l.made = map[string]*sharedListing{}
+	}
+	l.made[key] = it
+	go l.make(Counted(making, it), it, list)
+	return it
+}
+
+func (l *listings) make(ctx context.Context, it *sharedListing, list func(context.Context) (Listing, error)) {
 	defer it.stop()
 	listing, err := list(ctx)
 	it.listing, it.err = listing[:len(listing):len(listing)], err
 	l.mutex.Lock()
-	l.forget(key, it)
+	l.forget(it)
 	l.mutex.Unlock()
 	close(it.done)
 }
 
-// leave ends the making of a listing for which nobody waits any more.
-func (l *listings) leave(key string, it *sharedListing) {
+// Hold counts a part of the listing for each fetch that waits for it. A fetch that may not hold it waits no longer.
+func (it *sharedListing) Hold(bytes int64) error {
+	it.of.mutex.Lock()
+	defer it.of.mutex.Unlock()
+	it.bytes += bytes
+	for w := range it.waiting {
+		if w.err = w.memory.Hold(bytes); w.err != nil {
+			close(w.refused)
+			it.of.drop(it, w)
+		}
+	}
+	return nil
+}
+
+// refusal is why a fetch may not hold its listing, or nil.
+func (l *listings) refusal(w *waiter) error {
 	l.mutex.Lock()
 	defer l.mutex.Unlock()
-	if it.waiting--; it.waiting == 0 {
-		l.forget(key, it)
+	return w.err
+}
+
+// leave lets a fetch wait no longer.
+func (l *listings) leave(it *sharedListing, w *waiter) {
+	l.mutex.Lock()
+	defer l.mutex.Unlock()
+	l.drop(it, w)
+}
+
+// drop does this while the mutex is held. It ends the making of a listing for which nobody waits any more.
+func (l *listings) drop(it *sharedListing, w *waiter) {
+	delete(it.waiting, w)
+	if len(it.waiting) == 0 {
+		l.forget(it)
 		it.stop()
 	}
 }
 
 // forget lets nobody join any more; the mutex is held.
-func (l *listings) forget(key string, it *sharedListing) {
-	if l.made[key] == it {
-		delete(l.made, key)
+func (l *listings) forget(it *sharedListing) {
+	if l.made[it.key] == it {
+		delete(l.made, it.key)
 	}
 }

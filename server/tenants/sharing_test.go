@@ -3,6 +3,7 @@ package tenants
 import (
 	"context"
 	"errors"
+	"sync"
 	"testing"
 	"time"
 )
@@ -28,7 +29,7 @@ func waitFor(l *listings, count int) {
 	for found := -1; found != count; time.Sleep(time.Millisecond) {
 		l.mutex.Lock()
 		if it := l.made["key"]; it != nil {
-			found = it.waiting
+			found = len(it.waiting)
 		}
 		l.mutex.Unlock()
 	}
@@ -106,5 +107,80 @@ func TestAFaultOfASharedListingIsItsFirstCallersAlone(t *testing.T) {
 	}
 	if it := <-second; it.err != nil || it.listing.Len() != 1 {
 		t.Fatal(it)
+	}
+}
+
+// limited is a memory of so many bytes.
+type limited struct {
+	endless
+	mutex      sync.Mutex
+	held, most int64
+}
+
+var errFull = errors.New("the memory is full")
+
+func (l *limited) Hold(bytes int64) error {
+	l.mutex.Lock()
+	defer l.mutex.Unlock()
+	if l.held+bytes > l.most {
+		return errFull
+	}
+	l.held += bytes
+	return nil
+}
+
+// TestWhoMayNotHoldASharedListingIsRefused has three fetches wait for a listing: one may not hold its second part, one comes later and may not hold
+// what has come, and one has it all.
+func TestWhoMayNotHoldASharedListingIsRefused(t *testing.T) {
+	var l listings
+	first, second, late := &limited{most: 150}, &limited{most: 200}, &limited{most: 99}
+	begun, goOn := make(chan struct{}), make(chan struct{})
+	list := func(ctx context.Context) (Listing, error) {
+		for part := 0; part < 2; part++ {
+			if err := Hold(ctx, 100); err != nil {
+				return nil, err
+			}
+			begun <- struct{}{}
+			<-goOn
+		}
+		return Listing{}.With(Name{1}, Blob, 1), ctx.Err()
+	}
+	firsts := sharing(Counted(background, first), &l, list)
+	<-begun
+	seconds := sharing(Counted(background, second), &l, list)
+	waitFor(&l, 2)
+	if it := <-sharing(Counted(background, late), &l, list); it.err != errFull {
+		t.Fatal(it)
+	}
+	goOn <- struct{}{}
+	<-begun
+	if it := <-firsts; it.err != errFull {
+		t.Fatal(it)
+	}
+	goOn <- struct{}{}
+	if it := <-seconds; it.err != nil || it.listing.Len() != 1 {
+		t.Fatal(it)
+	}
+	if first.held != 100 || second.held != 200 || late.held != 0 {
+		t.Fatal(first.held, second.held, late.held)
+	}
+}
+
+func TestAListingThatNobodyMayHoldEnds(t *testing.T) {
+	var l listings
+	ended := make(chan error)
+	told := sharing(Counted(background, &limited{most: 99}), &l, func(ctx context.Context) (Listing, error) {
+		if err := Hold(ctx, 100); err != nil {
+			return nil, err
+		}
+		<-ctx.Done()
+		ended <- ctx.Err()
+		return nil, ctx.Err()
+	})
+	if it := <-told; it.err != errFull {
+		t.Fatal(it)
+	}
+	if err := <-ended; err != context.Canceled || len(l.made) != 0 {
+		t.Fatal(err)
 	}
 }

@@ -16,6 +16,23 @@ type Server struct {
 	MaySend func() error
 	// Lines counts the bytes of lines while a request has them; nil counts nothing.
 	Lines pktline.Budget
+	// Memory gives what counts the lists, the commits and the large objects that a fetch holds; nil counts nothing.
+	Memory func() Memory
+}
+
+// Memory counts what one fetch holds, until it is freed.
+type Memory interface {
+	tenants.Memory
+	Free()
+}
+
+// counted gives the context of a fetch that begins, and the call that counts what it holds no more.
+func (s Server) counted(ctx context.Context) (context.Context, func()) {
+	if s.Memory == nil {
+		return ctx, func() {}
+	}
+	memory := s.Memory()
+	return tenants.Counted(ctx, memory), memory.Free
 }
 
 // mostLines is how many bytes of lines one request may have: in protocols 0 and 1 a session is one request, in protocol 2 each command is one.
@@ -36,6 +53,8 @@ func (s Server) Serve(ctx context.Context, t Repository, in *bufio.Reader, out *
 	if len(q.wants) == 0 {
 		return nil
 	}
+	ctx, free := s.counted(ctx)
+	defer free()
 	f, err := s.begin(ctx, t, q, out)
 	if err != nil {
 		return say(out, err)

@@ -352,6 +352,43 @@ func TestRoundsOfANegotiationAddUp(t *testing.T) {
 	}
 }
 
+// bounded is a memory of so many bytes.
+type bounded struct {
+	held, most int64
+	frees      int
+}
+
+func (b *bounded) Hold(bytes int64) error {
+	if b.held += bytes; b.held > b.most {
+		return Refused{"too much is held"}
+	}
+	return nil
+}
+
+func (b *bounded) Take(context.Context, int64) (func(), error) { return func() {}, nil }
+func (b *bounded) TryTake(int64) func()                        { return func() {} }
+func (b *bounded) Free()                                       { b.frees++ }
+
+// TestCommitsThatAreWalkedAreCounted has a fetch walk a history by both kinds of protocol, with room for half of its commits and for all of them.
+func TestCommitsThatAreWalkedAreCounted(t *testing.T) {
+	m, commits := longRepository(1000)
+	want := fmt.Sprintf("want %v\n", commits[len(commits)-1])
+	for version, request := range map[int][]byte{
+		0: lines(want, "deepen 1000\n", "", "done\n"),
+		2: lines("command=fetch\n", "|", want, "deepen 1000\n", "done\n", ""),
+	} {
+		for most, isRefused := range map[int64]bool{500 * 300: true, 1000 * 300: false} {
+			b := &bounded{most: most}
+			var out bytes.Buffer
+			s := Server{Memory: func() Memory { return b }}
+			_ = s.Serve(context.Background(), m, bufio.NewReader(bytes.NewReader(request)), pktline.NewWriter(&out), version, true)
+			if bytes.Contains(out.Bytes(), []byte("ERR too much is held")) != isRefused || bytes.Contains(out.Bytes(), []byte("PACK")) == isRefused || b.frees != 1 {
+				t.Errorf("protocol %d with %d bytes: %+v, %.200q", version, most, b, out.Bytes())
+			}
+		}
+	}
+}
+
 // TestManyWantsWalkOneWay wants each commit of a history by itself, and has its oldest one.
 func TestManyWantsWalkOneWay(t *testing.T) {
 	m, commits := longRepository(3000)

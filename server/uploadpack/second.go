@@ -112,6 +112,8 @@ func (s Server) fetchSecond(ctx context.Context, t Repository, arguments []strin
 	}
 	out.Band(q.can["sideband-all"])
 	defer out.Band(false)
+	ctx, free := s.counted(ctx)
+	defer free()
 	f, err := s.begin(ctx, t, q, out)
 	if err != nil {
 		return say(out, err)

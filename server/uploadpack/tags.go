@@ -140,25 +140,25 @@ func addBetween(ctx context.Context, t Repository, wave []tenants.Name, chains m
 	return nil
 }
 
-// memory remembers where names lead. A name says for ever where it leads; it is asked of names that a tenant's own refs hold. Of a chain it
+// chainCache remembers where names lead. A name says for ever where it leads; it is asked of names that a tenant's own refs hold. Of a chain it
 // has the beginning and the end alone, so that each name takes the same room.
-type memory struct {
+type chainCache struct {
 	mutex  sync.Mutex
 	chains map[tenants.Name]Chain
 }
 
 const mostRemembered = 1 << 18
 
-var remembered memory
+var remembered chainCache
 
-func (m *memory) get(name tenants.Name) (Chain, bool) {
+func (m *chainCache) get(name tenants.Name) (Chain, bool) {
 	m.mutex.Lock()
 	defer m.mutex.Unlock()
 	chain, is := m.chains[name]
 	return chain, is
 }
 
-func (m *memory) put(name tenants.Name, chain Chain) {
+func (m *chainCache) put(name tenants.Name, chain Chain) {
 	m.mutex.Lock()
 	defer m.mutex.Unlock()
 	if m.chains == nil || len(m.chains) >= mostRemembered {

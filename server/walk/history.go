@@ -44,6 +44,9 @@ type History struct {
 	tried   int // commits that walks for ReachesAny came to
 }
 
+// commitBytes is what is counted for each commit that was read, beside the names of its parents: a walk has it in lists and sets of its own too.
+const commitBytes = 256
+
 // A walk goes to parents one round of questions after another. After so many rounds it asks for the rest of a history at once: in a
 // history that ends at a depth, later.
 const (
@@ -117,8 +120,9 @@ func (h *History) read(ctx context.Context, names []tenants.Name) error {
 		if o.Kind != tenants.Commit {
 			return fmt.Errorf("object %v is a %v where a commit has to be", o.Name, o.Kind)
 		}
-		h.commits[o.Name] = &commit{Head: objects.ReadHead(o.Contents), size: uint64(len(o.Contents))}
-		return nil
+		head := objects.ReadHead(o.Contents)
+		h.commits[o.Name] = &commit{Head: head, size: uint64(len(o.Contents))}
+		return tenants.Hold(ctx, commitBytes+int64(len(o.Name)*len(head.Parents)))
 	})
 }
 

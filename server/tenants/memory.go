@@ -1,0 +1,38 @@
+package tenants
+
+import "context"
+
+// Memory counts what one request holds. Its methods may be called by many goroutines at once.
+type Memory interface {
+	// Hold counts bytes until the request has ended. Its error says that these are too many, and ends the request.
+	Hold(bytes int64) error
+	// Take waits until so many bytes of entries may be held, and gives the call that counts them no more.
+	Take(ctx context.Context, bytes int64) (giveBack func(), err error)
+	// TryTake does not wait. It is nil where so many may not be held now.
+	TryTake(bytes int64) (giveBack func())
+}
+
+// memoryKey is the key, among the values of a context, of what counts.
+type memoryKey struct{}
+
+// Counted gives a context whose calls count in a memory what they hold.
+func Counted(ctx context.Context, memory Memory) context.Context {
+	return context.WithValue(ctx, memoryKey{}, memory)
+}
+
+// Hold counts bytes in the memory of a context, if it has one.
+func Hold(ctx context.Context, bytes int64) error { return memoryOf(ctx).Hold(bytes) }
+
+func memoryOf(ctx context.Context) Memory {
+	if memory, has := ctx.Value(memoryKey{}).(Memory); has {
+		return memory
+	}
+	return endless{}
+}
+
+// endless counts nothing.
+type endless struct{}
+
+func (endless) Hold(int64) error                            { return nil }
+func (endless) Take(context.Context, int64) (func(), error) { return func() {}, nil }
+func (endless) TryTake(int64) func()                        { return func() {} }
