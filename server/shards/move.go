@@ -108,7 +108,7 @@ func (s *Set) bring(ctx context.Context, tenant string, from, to int) error {
 	if err := s.stores[from-1].Extract(ctx, tenant, file); err != nil {
 		return named(from, len(s.stores), err)
 	}
-	err := s.stores[to-1].Merge(ctx, file)
+	err := s.stores[to-1].Merge(ctx, tenant, file)
 	if err == nil {
 		err = s.stores[to-1].PutAnswers(tenant, s.stores[from-1].Answers(tenant))
 	}

@@ -37,8 +37,8 @@ const (
 	memory = 5
 )
 
-// serve takes requests up to the one for a command, and carries it out. It tells whether the connection is to end too, unless another session of it
-// is at work: a client that has not said in time what it wants may not heed that its channel is closed, and one that is no longer let in by what it
+// serve takes requests up to the one for a command, and carries it out. It tells whether the connection is to end too, as soon as no session of it is
+// at work: a client that has not said in time what it wants may not heed that its channel is closed, and one that is no longer let in by what it
 // showed has to show something else.
 func (s *session) serve(ctx context.Context, requests <-chan *ssh.Request) (ends bool) {
 	defer s.channel.Close()

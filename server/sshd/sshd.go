@@ -7,6 +7,7 @@ import (
 	"errors"
 	"net"
 	"sync"
+	"sync/atomic"
 	"time"
 
 	"golang.org/x/crypto/ssh"
@@ -136,6 +137,7 @@ func (s *server) connection(ctx context.Context, c net.Conn, hostKey ssh.Signer)
 // sessions serves the channels of a connection, so many at once.
 func (s *server) sessions(ctx context.Context, conn *ssh.ServerConn, channels <-chan ssh.NewChannel) {
 	var running sync.WaitGroup
+	var isToEnd atomic.Bool
 	places := make(chan struct{}, mostSessions)
 	ctx, stop := context.WithCancel(ctx)
 	defer running.Wait()
@@ -154,7 +156,10 @@ func (s *server) sessions(ctx context.Context, conn *ssh.ServerConn, channels <-
 			defer running.Done()
 			it := &session{server: s, conn: conn, channel: channel, user: conn.Permissions.Extensions[userKey],
 				address: host(conn.RemoteAddr())}
-			if ends := it.serve(ctx, requests); s.free(places, idle) && ends {
+			if it.serve(ctx, requests) {
+				isToEnd.Store(true)
+			}
+			if s.free(places, idle) && isToEnd.Load() {
 				conn.Close()
 			}
 		}()

@@ -89,7 +89,8 @@ func TestAnOpenConnectionLosesItsUser(t *testing.T) {
 	}
 }
 
-// TestASessionAtWorkOutlastsItsKey has a session that waits for its answer when the key goes, and a new one that is refused beside it.
+// TestASessionAtWorkOutlastsItsKey has a session that waits for its answer when the key goes, and a new one that is refused beside it. The connection
+// ends with the session that is at work.
 func TestASessionAtWorkOutlastsItsKey(t *testing.T) {
 	host := hosted(t, "drain 1s\n")
 	client, err := ssh.Dial("tcp", host.address, host.config)
@@ -99,7 +100,7 @@ func TestASessionAtWorkOutlastsItsKey(t *testing.T) {
 	check(t, err)
 	said, err := session.StdoutPipe()
 	check(t, err)
-	_, err = session.StdinPipe()
+	in, err := session.StdinPipe()
 	check(t, err)
 	check(t, session.Start("git-upload-pack 'a'"))
 	check(t, os.WriteFile(filepath.Join(host.folder, "keys"), nil, 0o600))
@@ -109,4 +110,6 @@ func TestASessionAtWorkOutlastsItsKey(t *testing.T) {
 	if _, err := io.ReadFull(said, make([]byte, 4)); err != nil {
 		t.Fatalf("a session that had begun: %v", err)
 	}
+	check(t, in.Close())
+	ends(t, client)
 }

@@ -394,3 +394,58 @@ func TestAFollowerWaitsForTheEnd(t *testing.T) {
 	saves(t, leader, follower)
 	samePool(t, c, of)
 }
+
+// unsureBegin is a log that begins a segment and does not say so once.
+type unsureBegin struct {
+	journal.Journal
+	left int
+}
+
+func (u *unsureBegin) IsFollowed() bool { return true }
+
+func (u *unsureBegin) Begin(pool journal.Digest, open []uint64) error {
+	err := u.Journal.Begin(pool, open)
+	if u.left--; err == nil && u.left >= 0 {
+		return journal.ErrUnsure
+	}
+	return err
+}
+
+// TestAMergeThatOnlyTheLogHas merges a tenant, and is not told that the log has that. So the leader goes on without the tenant, while its follower
+// merges it. Both have the same pool file again at the next save, and after another merge of the tenant.
+func TestAMergeThatOnlyTheLogHas(t *testing.T) {
+	from := opened(t, plain(t, folder(t)))
+	defer from.Close(background)
+	must(t, push(from, "b", "refs/heads/main", "of b"))
+	moved := filepath.Join(t.TempDir(), "moved")
+	must(t, from.Extract(background, "b", moved))
+	server := redistest.Start(t)
+	c := overRedis(t, server, plain(t, folder(t)))
+	leader := opened(t, c)
+	defer leader.Close(background)
+	of := followerOf(t, c)
+	follower := opened(t, of)
+	defer follower.Close(background)
+	pushAll(t, leader, "m0")
+	log := leader.journal
+	leader.journal = &unsureBegin{Journal: log, left: 1}
+	if err := leader.Merge(background, "b", moved); !errors.Is(err, journal.ErrUnsure) {
+		t.Fatal(err)
+	}
+	leader.journal = log
+	must(t, follower.Fresh(background))
+	hasMessages(t, follower, "b", "refs/heads/main", []string{"of b"})
+	if leader.Has("b") {
+		t.Fatal("the leader has the tenant")
+	}
+	pushAll(t, leader, "m1")
+	saves(t, leader, follower)
+	samePool(t, c, of)
+	hasMessages(t, follower, "b", "refs/heads/main", nil)
+	must(t, leader.Merge(background, "b", moved))
+	must(t, push(leader, "b", "refs/heads/main", "more"))
+	must(t, follower.Fresh(background))
+	saves(t, leader, follower)
+	samePool(t, c, of)
+	hasMessages(t, leader, "b", "refs/heads/main", []string{"more", "of b"})
+}

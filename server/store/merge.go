@@ -72,9 +72,9 @@ func (s *Store) runProgram(ctx context.Context, words ...string) error {
 	return nil
 }
 
-// Merge adds the tenants of a pool file, none of which the store may have. They last when Merge returns nil. Reading goes on meanwhile,
-// and pushes wait. On an error the store may have the tenants, or may get them at its next start: see Has.
-func (s *Store) Merge(ctx context.Context, file string) error {
+// Merge adds the tenant of a pool file that has no other one. The store may not have it. It lasts when Merge returns nil. Reading goes on meanwhile,
+// and pushes wait. On an error the store may have the tenant, or may get it at its next start: see Has.
+func (s *Store) Merge(ctx context.Context, tenant, file string) error {
 	if err := s.beginMaintenance(ctx); err != nil {
 		return err
 	}
@@ -83,12 +83,49 @@ func (s *Store) Merge(ctx context.Context, file string) error {
 		return err
 	}
 	defer s.streams.open()
+	if err := s.removeHalfMerged(ctx); err != nil {
+		return err
+	}
 	began := time.Now()
 	err := s.merge(ctx, file)
-	if err == nil {
+	switch {
+	case err == nil:
 		s.config.Tell("a tenant came in %.1f s", time.Since(began).Seconds())
+	case errors.Is(err, journal.ErrUnsure):
+		s.halfMerged = append(s.halfMerged, tenant)
 	}
 	return err
+}
+
+// removeHalfMerged removes the tenants whose merges the log may have, while this store has gone on without them. Servers that follow the log have merged
+// them then, and would come to another pool file at the next save. Whoever calls it has the turn of maintenance.
+func (s *Store) removeHalfMerged(ctx context.Context) error {
+	for len(s.halfMerged) > 0 {
+		tenant := s.halfMerged[0]
+		if s.Has(tenant) {
+			s.halfMerged = s.halfMerged[1:]
+			continue
+		}
+		number, _, err := s.sendInTurn(ctx, tenant, frames.Step{Kind: frames.Remove, Tenant: tenant})
+		if number == 0 {
+			return err
+		}
+		// The log has it, so that a child which dies meanwhile changes nothing.
+		s.forget(number)
+		s.noteRemoved(tenant)
+	}
+	return nil
+}
+
+// noteRemoved notes that no server has a tenant any more of which the log may have a merge.
+func (s *Store) noteRemoved(tenant string) {
+	var left []string
+	for _, it := range s.halfMerged {
+		if it != tenant {
+			left = append(left, it)
+		}
+	}
+	s.halfMerged = left
 }
 
 // waitForStreams lets no stream begin any more, and waits until all have ended.

@@ -52,6 +52,15 @@ func (s *Store) sendRequest(ctx context.Context, changed string, step frames.Ste
 		return 0, nil, err
 	}
 	defer s.endMaintenance()
+	number, outcome, err = s.sendInTurn(ctx, changed, step)
+	if number > 0 && step.Kind == frames.Remove {
+		s.noteRemoved(changed)
+	}
+	return number, outcome, err
+}
+
+// sendInTurn does so for one that has the turn of maintenance.
+func (s *Store) sendInTurn(ctx context.Context, changed string, step frames.Step) (number uint64, outcome <-chan frames.Answer, err error) {
 	if err := s.steps.shut(ctx); err != nil {
 		return 0, nil, err
 	}

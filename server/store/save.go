@@ -38,6 +38,11 @@ func (s *Store) Save(ctx context.Context) error {
 		return err
 	}
 	defer s.endMaintenance()
+	began := time.Now()
+	if err := s.removeHalfMerged(ctx); err != nil {
+		s.noteSave(began, err)
+		return err
+	}
 	if !s.journal.HasSteps() && !s.journal.IsHealedBySave() {
 		if err := s.bringCopy(); err != nil {
 			return err
@@ -45,7 +50,6 @@ func (s *Store) Save(ctx context.Context) error {
 		s.dropKept()
 		return nil
 	}
-	began := time.Now()
 	err := s.save(ctx, endTurn)
 	s.noteSave(began, err)
 	return err

@@ -90,6 +90,9 @@ type Store struct {
 	room    string
 	losses  uint64
 
+	// halfMerged are the tenants of merges that the log may have, and this store has not; whoever has the turn of maintenance uses it.
+	halfMerged []string
+
 	// answers are those of streams with tokens; `keeping` has the Ends whose answers are not among them yet.
 	answers *answers.Kept
 	keeping sync.WaitGroup

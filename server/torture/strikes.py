@@ -6,6 +6,7 @@ to do; then too all that was told has to be there.
 from __future__ import annotations
 
 import hashlib
+import itertools
 import os
 import random
 import shutil
@@ -17,7 +18,7 @@ from typing import Callable, Dict, List, Sequence, Tuple, Union
 
 from follower_strikes import FollowerStrikes
 from redis_pairs import NotThere, Pair, RedisServer, wait_until
-from servers import Server, content
+from servers import Refused, Server, content
 from service import QUESTIONS, Service
 
 Entry = Union[bytes, int, None, Exception, "List[Entry]"]
@@ -258,6 +259,7 @@ class Strikes(FollowerStrikes):
         pair = self.pair()
         chosen = cuts(pair)
         first = chosen[0][1]
+        self.has_record(pair, first)
         for it in pair.both:
             it.kill()
         # Where it still knew the pair, it could let the first one follow what was the primary before.
@@ -275,6 +277,21 @@ class Strikes(FollowerStrikes):
         self.ended_with(3, ("lost", "gone"))
         self.refused_start(("lost", "gone", "there is no log", "another one"))
         self.rescued()
+
+    def has_record(self, pair: Pair, server: RedisServer) -> None:
+        """Lets the file of a Redis have a record that can be cut off: tenants are moved to its shard or from it. Right after a Redis has become a replica,
+        all that came before is in the base of its file, and a cut would lose nothing."""
+        service = self.service
+        number = service.pairs.index(pair)
+        names = [line.split()[0] for line in service.leader.operate("tenants").splitlines()]
+        for name, step in itertools.product(names, (0, 1)):
+            if RECORD in content(server.aof()):
+                break
+            try:
+                service.leader.operate("move", name, str(1 + (number + step) % service.shards))
+            except Refused:
+                continue
+        wait_until(service.follower_comes, "the follower does not come to what was moved")
 
     def pool_damaged(self) -> None:
         """A byte of a pool file is flipped while the server is down: no start goes on; the copy is put back."""
@@ -417,10 +434,15 @@ def rewritten(pair: Pair, key: str, entries: Sequence[Entry], other: Dict[int, b
     wait_until(lambda: pair.entries(key, pair.replica()) == pair.entries(key), "a replica does not follow")
 
 
+RECORD = b"\r\nrecord\r\n"
+"""What stands in the file of a Redis before the bytes of each record."""
+
+
 def cut_off(server: RedisServer, chance: random.Random) -> None:
     """Takes up to 20 KB off the end of the file of a Redis that does not run, and at least the end of the last record. Signs of life stand behind it."""
     data = content(server.aof())
-    last = data.rfind(b"\r\nrecord\r\n")
+    last = data.rfind(RECORD)
+    assert last >= 0, "there is no record to cut off"
     os.truncate(server.aof(), max(0, min(last, len(data) - chance.randrange(400, 20_000))))
 
 
