@@ -25,16 +25,18 @@
  * The library is proved for every caller that meets these conditions, and nothing checks them:
  * - A handle that is passed was filled by one of the calls above, and was not freed since. Only the calls that fill a handle take an empty
  *   one. If they are given a filled one, its memory is lost.
- * - A handle is used by one thread at a time, and not from a signal handler or the forked child of a process with threads. Different
- *   services may run in different threads.
- * - The memory at a pointer has the length beside it, and no other thread changes it during the call. The pointers of one call do not
- *   overlap, except two that are only read.
+ * - A handle stays on the thread that filled it: no other thread gives it to a call, not even later. It is not proved that a handle may be
+ *   moved to another thread. Different threads may have services, replies and lists of their own.
+ * - No call is made from a signal handler, or from the forked child of a process with threads.
+ * - No pointer is NULL, also where the length beside it is 0. The memory at a pointer has that length, no other thread changes it during
+ *   the call, and each of its bytes has been set. This holds for memory that a call only writes too: set a `room`, a `told` and a `totals`
+ *   to zeros once. The pointers of one call do not overlap, except two that are only read.
+ * - malloc and realloc give memory that is aligned to 16 bytes, and they and free are of one allocator, as those of each C library are.
  *
  * Bytes
  *
  * Names, streams, queries and files are a pointer and a length. They may have any bytes, also zeros, and need no zero at the end. The
- * pointer may be NULL if the length is 0. The library reads them during the call only, and keeps copies of what it needs. Bytes that the
- * library hands out are copied to room of yours.
+ * library reads them during the call only, and keeps copies of what it needs. Bytes that the library hands out are copied to room of yours.
  */
 #ifndef GITPOOL_H
 #define GITPOOL_H
@@ -75,7 +77,8 @@ uint32_t gitpool_new(gitpool_service *service);
 
 /* Makes a service of the bytes of a pool file. Each tenant of the file has its repository, and no stream.
  * 60 to 67, 69: the file is refused; the number is that of the first thing that is wrong with it.
- * 68: the file would take more than 2^32 reads of 65,536 bytes. 90: there is no memory. */
+ * 68: the file would take more than 2^32 reads of 65,536 bytes. No clause excludes this answer for a shorter file; tests do.
+ * 90: there is no memory. */
 uint32_t gitpool_load(gitpool_service *service, const uint8_t *file, size_t length);
 
 /* Saves the repositories of all tenants at their last checkpoints. The bytes of the reply are then the whole pool file, in memory. What a

@@ -74,7 +74,7 @@ static uint32_t convert(gitpool_service *service, gitpool_reply *reply, FILE *to
 }
 
 static int tell(gitpool_service *service, gitpool_reply *reply) {
-  gitpool_totals totals;
+  gitpool_totals totals = {0, 0, 0};
   struct text stream = {NULL, 0};
   size_t accepted = 0;
   FILE *to = open_memstream(&stream.bytes, &stream.length);

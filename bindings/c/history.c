@@ -20,7 +20,7 @@ static const uint8_t *name_of(const struct site *it) { return (const uint8_t *)i
 
 /* Prints the bytes of the last reply. */
 static void print_reply(struct site *it) {
-  uint8_t room[4096];
+  static uint8_t room[4096];
   size_t from = 0, length;
   while ((length = gitpool_reply_read(&it->reply, from, room, sizeof room)) != 0) {
     fwrite(room, 1, length, stdout);

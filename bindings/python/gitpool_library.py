@@ -12,8 +12,9 @@ gitpool.Service. Two things differ. Where memory runs out, and in a stream that 
 Fault 90 in such a stream. And a pool file that a server keeps is refused: use gitpool for it.
 
 The library is the file that the environment variable GITPOOL_LIBRARY names, else libgitpool.so.0 two folders above this file's, where an
-install puts it, else the one that the system finds. A Service belongs to one thread at a time: a call is refused while another thread's is
-at work. Loads, saves, feeds and exports let other threads of Python run; a question, which mostly takes microseconds, does not.
+install puts it, else the one that the system finds. Use a Service on the thread that made it: it is not proved that it may be moved to another
+thread. A call is refused while another thread's is at work. Loads, saves, feeds and exports let other threads of Python run; a question, which
+mostly takes microseconds, does not.
 """
 from __future__ import annotations
 

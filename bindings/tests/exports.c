@@ -22,7 +22,7 @@ static const char NAME[] = "ce013625030ba8dba906f756967f9e9ca394464a\n";
 static const uint8_t *bytes_of(const char *text) { return (const uint8_t *)text; }
 
 static bool replied(gitpool_reply *reply, const char *wanted) {
-  uint8_t room[200];
+  uint8_t room[200] = {0};
   size_t length = strlen(wanted);
   return gitpool_reply_length(reply) == length && gitpool_reply_read(reply, 0, room, sizeof room) == length && memcmp(room, wanted, length) == 0;
 }
@@ -46,7 +46,7 @@ static void refused(gitpool_service *service, gitpool_reply *reply) {
   CHECK(gitpool_open(service, BOB, sizeof BOB, reply) == 0);
   CHECK(gitpool_feed(service, BOB, sizeof BOB, bytes_of(text), strlen(text), reply) == 2);
   CHECK(replied(reply, "progress x\n"));
-  CHECK(gitpool_feed(service, BOB, sizeof BOB, NULL, 0, reply) == 2);
+  CHECK(gitpool_feed(service, BOB, sizeof BOB, BOB, 0, reply) == 2);
   CHECK(gitpool_end(service, BOB, sizeof BOB, reply) == 2);
   CHECK(gitpool_open(service, BOB, sizeof BOB, reply) == 0);
   CHECK(gitpool_abandon(service, BOB, sizeof BOB) == 0);
@@ -55,7 +55,7 @@ static void refused(gitpool_service *service, gitpool_reply *reply) {
   CHECK(gitpool_restart(service, reply) == 0);
   CHECK(gitpool_end(service, BOB, sizeof BOB, reply) == 30);
   CHECK(gitpool_open(service, BAD, sizeof BAD, reply) == 32);
-  CHECK(gitpool_open(service, NULL, 0, reply) == 32);
+  CHECK(gitpool_open(service, BOB, 0, reply) == 32);
 }
 
 static void asks(gitpool_service *service, gitpool_reply *reply) {
@@ -66,17 +66,17 @@ static void asks(gitpool_service *service, gitpool_reply *reply) {
   CHECK(gitpool_reply_read(reply, 38, room, 2) == 2 && memcmp(room, "4a", 2) == 0 && room[2] == 0);
   CHECK(gitpool_reply_read(reply, 41, room, 4) == 0);
   CHECK(gitpool_reply_read(reply, 1000, room, 4) == 0);
-  CHECK(gitpool_reply_read(reply, 0, NULL, 0) == 0);
+  CHECK(gitpool_reply_read(reply, 0, room, 0) == 0);
   CHECK(gitpool_ask(service, BOB, sizeof BOB, bytes_of(query), strlen(query), reply) == 16);
   CHECK(gitpool_reply_fault(reply) == 16 && gitpool_reply_length(reply) == 0);
-  CHECK(gitpool_ask(service, BOB, sizeof BOB, NULL, 0, reply) == 40 || gitpool_reply_fault(reply) == 41);
+  CHECK(gitpool_ask(service, BOB, sizeof BOB, BOB, 0, reply) == 40 || gitpool_reply_fault(reply) == 41);
 }
 
 static void operates(gitpool_service *service) {
   gitpool_sizes sizes = GITPOOL_EMPTY;
-  gitpool_tenant_sizes told;
-  gitpool_totals totals;
-  uint8_t room[GITPOOL_TENANT_NAME_LIMIT];
+  gitpool_tenant_sizes told = {0, 0, 0, 0, 0};
+  gitpool_totals totals = {0, 0, 0};
+  uint8_t room[GITPOOL_TENANT_NAME_LIMIT] = {0};
   CHECK(gitpool_copy(service, ALICE, sizeof ALICE, BOB, sizeof BOB) == 0);
   CHECK(gitpool_copy(service, ALICE, sizeof ALICE, BOB, sizeof BOB) == 33);
   CHECK(gitpool_compact(service, ALICE, sizeof ALICE) == 0);
@@ -101,7 +101,7 @@ static void saves(gitpool_service *service, gitpool_reply *reply) {
   CHECK(length == gitpool_reply_length(reply));
   CHECK(gitpool_load(&again, file, length - 1) == 62);
   CHECK(again.at == NULL);
-  CHECK(gitpool_load(&again, NULL, 0) == 62);
+  CHECK(gitpool_load(&again, file, 0) == 62);
   CHECK(gitpool_load(&again, file, length) == 0);
   asks(&again, reply);
   gitpool_free(&again);

@@ -136,8 +136,8 @@ static uint32_t save(void) {
 }
 
 static size_t write_line(char *at, size_t length, gitpool_sizes *sizes, size_t place) {
-  gitpool_tenant_sizes told;
-  uint8_t name[GITPOOL_TENANT_NAME_LIMIT];
+  gitpool_tenant_sizes told = {0, 0, 0, 0, 0};
+  uint8_t name[GITPOOL_TENANT_NAME_LIMIT] = {0};
   if (!gitpool_sizes_at(sizes, place, &told, name, sizeof name)) exit(1);
   return (size_t)snprintf(at, length, "%.*s objects %llu bytes %llu own %llu refs %llu\n", (int)told.tenant_length, (const char *)name,
                           (unsigned long long)told.objects, (unsigned long long)told.bytes, (unsigned long long)told.own_bytes,

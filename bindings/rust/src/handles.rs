@@ -1,8 +1,9 @@
 //! The handles of the C library, each with an owner in Rust that frees it.
 //!
 //! Everything unsafe of this crate stands here. What the header asks of a caller holds for these reasons: a handle is made full and freed by
-//! its `Drop` alone; each call borrows its handles mutably, so no second call is at work on one; and slices have the length that they say,
-//! and no two of a call overlap, unless both are only read.
+//! its `Drop` alone; it is no `Send`, so it stays on the thread that filled it; each call borrows its handles mutably, so no second call is at
+//! work on one; and slices are set, have the length that they say, and no two of a call overlap, unless both are only read. No pointer is
+//! null, not even that of an empty slice.
 
 use crate::ffi;
 
@@ -14,11 +15,6 @@ pub struct ReplyHandle(ffi::Reply);
 
 /// A list of sizes that is filled.
 pub struct SizesHandle(ffi::Sizes);
-
-// Safety: each owns its memory alone, and no call uses anything of a thread's. What of that is proved, the crate's documentation says
-// ("Threads").
-unsafe impl Send for ServiceHandle {}
-unsafe impl Send for ReplyHandle {}
 
 fn told<T>(number: u32, well: T) -> Result<T, u32> {
     match number {
@@ -115,27 +111,13 @@ impl ReplyHandle {
         unsafe { ffi::gitpool_reply_items(&mut self.0) }
     }
 
-    /// Appends the bytes of the reply. A vector that had other replies before mostly has room for them; then one call is enough.
+    /// Appends the bytes of the reply. The room for them is set to zeros first, because the library is proved for memory that has been set.
     pub fn append_to(&mut self, out: &mut Vec<u8>) {
-        let before = out.len();
-        if before < out.capacity() {
-            self.append_from(0, out);
-        }
-        if out.len() == out.capacity() {
-            let (length, read) = (unsafe { ffi::gitpool_reply_length(&mut self.0) }, out.len() - before);
-            out.reserve(length - read);
-            self.append_from(read, out);
-        }
-    }
-
-    // Appends the bytes of the reply from this one on, as many as there is room for.
-    fn append_from(&mut self, from: usize, out: &mut Vec<u8>) {
-        let room = out.spare_capacity_mut();
-        // Safety: the room has this length, and the call says how many bytes of it it wrote.
-        unsafe {
-            let written = ffi::gitpool_reply_read(&mut self.0, from, room.as_mut_ptr().cast(), room.len());
-            out.set_len(out.len() + written);
-        }
+        let (before, length) = (out.len(), unsafe { ffi::gitpool_reply_length(&mut self.0) });
+        out.resize(before + length, 0);
+        let room = &mut out[before..];
+        let written = unsafe { ffi::gitpool_reply_read(&mut self.0, 0, room.as_mut_ptr(), room.len()) };
+        out.truncate(before + written);
     }
 }
 

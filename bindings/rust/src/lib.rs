@@ -27,23 +27,25 @@
 //!
 //! # Threads
 //!
-//! A [`Service`] is `Send` and not `Sync`: it may be moved to another thread, and one thread at a time uses it.
+//! A [`Service`] is neither `Send` nor `Sync`: it stays on the thread that made it, because no clause of the library says that a handle may be
+//! moved to another thread. Threads that have services of their own need not wait for each other.
 //!
 //! Proved is that a call reads and writes the memory of its handles and of the slices that it is given, and beside it constants. A handle owns it
 //! alone: nothing in it is lent to another handle, or counted (`holds` in crates/gitpool_c/specs/Held.antt). So calls of two services never meet.
-//!
-//! That a service may be moved is **not proved**. The prover knows no threads, so no clause of the library speaks of them. It rests on this:
+//! That two threads may make such calls at once rests on this too:
 //!
 //! - The archive has no thread-local variable, and no static one that is written. The one byte outside of its constants is of the kit's
 //!   allocator, and only its address is used, for an allocation of no bytes. `bindings/check` looks at the sections and at that byte.
-//! - The library takes memory by `malloc`, `realloc` and `free` alone. Several threads may call these at once, and one may free what another
-//!   one allocated.
-//! - Each way in which Rust moves a value to another thread shows that thread all that was written before.
+//! - The library takes memory by `malloc`, `realloc` and `free` alone. Several threads may call these at once.
 //!
 //! ```
-//! let mut service = gitpool::Service::new().unwrap();
-//! let counted = std::thread::spawn(move || service.refs("alice").unwrap().count());
-//! assert_eq!(counted.join().unwrap(), 0);
+//! let count = || gitpool::Service::new().unwrap().refs("alice").unwrap().count();
+//! assert_eq!(std::thread::spawn(count).join().unwrap() + count(), 0);
+//! ```
+//!
+//! ```compile_fail
+//! fn may_be_moved<T: Send>() {}
+//! may_be_moved::<gitpool::Service>();
 //! ```
 //!
 //! ```compile_fail

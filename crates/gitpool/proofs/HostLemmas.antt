@@ -13,7 +13,7 @@ use Rattle.service_steps.specs.declared.request.Request.{Request}
 use Rattle.service_steps.specs.declared.request.Request.TheVariants as request
 use Rattle.service_steps.specs.Frames.{answer_text}
 use Rattle.service_steps.specs.Reading.{HasReadWell}
-use Rattle.service_steps.specs.Requests.{request_frame, request_text, IsGoodRequest}
+use Rattle.service_steps.specs.Requests.{request_text, IsGoodRequest}
 use Rattle.service_steps.specs.RequestReading.{ReadsRequest}
 use Rattle.service_steps.proofs.ReadLemmas.{well_none, well_more}
 use Rattle.service_steps.proofs.RequestLemmas.{no_request_read}
@@ -43,7 +43,7 @@ spared-last : (tenant : List ℕ) (run : HostRun) (one : Request × Response) �
 spared-last tenant [] one all = all.0
 spared-last tenant (t ∷ later) one all = spared-last tenant later one all.1
 
-with_step-more : (r : Request) (told : Response) (a b : Run) → with_step r told (a ++ b) ≡ with_step r told a ++ b
+pub with_step-more : (r : Request) (told : Response) (a b : Run) → with_step r told (a ++ b) ≡ with_step r told a ++ b
 with_step-more (request.Step s) told a b = refl
 with_step-more (request.Save which) told a b = refl
 with_step-more (request.Abandon tenant) told a b = refl
@@ -65,7 +65,7 @@ not-true : (b : Bool) → not b ≡ true → b ≡ false
 not-true true e = cc e
 not-true false e = refl
 
-same-none : (digest : List ℕ → List ℕ) (tenant : List ℕ) (before after : TenantStates) → held_of tenant after ≡ held_of tenant before
+pub same-none : (digest : List ℕ → List ℕ) (tenant : List ℕ) (before after : TenantStates) → held_of tenant after ≡ held_of tenant before
     → IsIsolated digest tenant (held_of tenant before) [] (held_of tenant after)
 same-none digest tenant before after same =
     rw same (own-none digest tenant (held_of tenant before))
@@ -75,7 +75,7 @@ by-others : (digest : List ℕ → List ℕ) (tenant given : List ℕ) (before a
 by-others digest tenant given before after others spared =
     same-none digest tenant before after (others tenant (not-true (bytes_eq tenant given) spared))
 
-own-one : (digest : List ℕ → List ℕ) (tenant : List ℕ) (b c : Hosted) (r : Request) (told : Response) → Takes digest r b told c
+pub own-one : (digest : List ℕ → List ℕ) (tenant : List ℕ) (b c : Hosted) (r : Request) (told : Response) → Takes digest r b told c
     → spares tenant r ≡ true → IsIsolated digest tenant (held_of tenant b.tenants) (with_step r told []) (held_of tenant c.tenants)
 own-one digest tenant b c (request.Step s) told takes spared = takes.0.own tenant
 own-one digest tenant b c (request.Save which) told takes spared =
@@ -103,7 +103,7 @@ pub record SoFar (digest : List ℕ → List ℕ) (before after : Hosted) (r0 r 
   pub leads : Leads digest before run after
   pub own : (tenant : List ℕ) → IsSpared tenant run → IsIsolated digest tenant (held_of tenant before.tenants) (steps_in run)
       (held_of tenant after.tenants)
-  pub good : AllByRecursion (λ taken. IsGoodRequest (request_frame taken.0)) run
+  pub good : AllByRecursion (λ taken. IsGoodRequest taken.0) run
   pub read : HasReadWell r0 r (requests_text run)
   pub written : Appends w0.known w.known (told_text run)
   pub well : IsWell w0 w
@@ -201,7 +201,7 @@ pub record Taken (digest : List ℕ → List ℕ) (before after : Hosted) (r0 r 
   pub leads : Leads digest before (run ++ (one, told) ∷ []) after
   pub own : (tenant : List ℕ) → IsSpared tenant (run ++ (one, told) ∷ []) → IsIsolated digest tenant (held_of tenant before.tenants)
       (steps_in (run ++ (one, told) ∷ [])) (held_of tenant after.tenants)
-  pub good : AllByRecursion (λ taken. IsGoodRequest (request_frame taken.0)) (run ++ (one, told) ∷ [])
+  pub good : AllByRecursion (λ taken. IsGoodRequest taken.0) (run ++ (one, told) ∷ [])
   pub read : HasReadWell r0 r (requests_text (run ++ (one, told) ∷ []))
 
 pub taken_by : (digest : List ℕ → List ℕ) (before between after : Hosted) (r0 r w0 w : Device) (count : ℕ) (r' : Device) (one : Request)
@@ -216,7 +216,7 @@ taken_by digest before between after r0 r w0 w count r' one told s read takes = 
       (own-more digest tenant (held_of tenant before.tenants) (held_of tenant between.tenants) (held_of tenant after.tenants) (steps_in s.run)
       (with_step one told []) (s.own tenant (spared-front tenant s.run (one, told) spared))
       (own-one digest tenant between after one told takes (spared-last tenant s.run (one, told) spared)));
-  good = all_whole (λ (t : Request × Response). IsGoodRequest (request_frame t.0)) s.run ((one, told) ∷ []) s.good (read.0, tt);
+  good = all_whole (λ (t : Request × Response). IsGoodRequest t.0) s.run ((one, told) ∷ []) s.good (read.0, tt);
   read = subst (λ (l : List ℕ). HasReadWell r0 r' l) (sym (more_text (λ (t : Request × Response). request_text t.0) s.run (one, told)))
       (well_more r0 r r' (requests_text s.run) (request_text one) s.read read.1);
 }

@@ -9,7 +9,7 @@ use Rattle.service_steps.specs.declared.frame_fault.FrameFault.TheVariants as fa
 use Rattle.service_steps.specs.declared.request.Request.{Request}
 use Rattle.service_steps.specs.declared.request.Request.TheVariants as request
 use Rattle.service_steps.specs.Frames.{frame_of, step_text, answer_text, IsGood}
-use Rattle.service_steps.specs.Requests.{request_frame, IsGoodRequest}
+use Rattle.service_steps.specs.Requests.{IsGoodRequest}
 use Rattle.service_steps.specs.StepFrames.{begins_no_request, is_step}
 use Rattle.service_steps.proofs.StepRequestLemmas.{good_step, unfinished_step, cut_off_step, bad_step}
 use Rattle.tenant_service.specs.Headline.{IsRefused}
@@ -56,11 +56,11 @@ same_length (t ∷ later) steps =
     by_step (λ r. length (with_step r t.1 (steps_in later)) ≡ suc (length later))
     (λ s. ap suc (same_length later steps.1)) t.0 steps.0
 
-all_good : (run : HostRun) → AreSteps run → AllByRecursion (λ taken. IsGoodRequest (request_frame taken.0)) run
+all_good : (run : HostRun) → AreSteps run → AllByRecursion (λ taken. IsGoodRequest taken.0) run
     → AllByRecursion (λ taken. IsGood (frame_of taken.0)) (steps_in run)
 all_good [] steps good = tt
 all_good (t ∷ later) steps good =
-    by_step (λ r. IsGoodRequest (request_frame r) → AllByRecursion (λ taken. IsGood (frame_of taken.0)) (with_step r t.1 (steps_in later)))
+    by_step (λ r. IsGoodRequest r → AllByRecursion (λ taken. IsGood (frame_of taken.0)) (with_step r t.1 (steps_in later)))
     (λ s g. (good_step s g, all_good later steps.1 good.1)) t.0 steps.0 good.0
 
 all_refused : (digest : List ℕ → List ℕ) (before after : Hosted) (run : HostRun) → AreSteps run → Leads digest before run after

@@ -497,3 +497,13 @@ new-can-open tenant all none named = (
   ap is_tenant_name named ∙ one-is-good,
   ap (λ (hs : TenantStates). held_of tenant hs) none,
 )
+
+-- An import of that tenant of a new service is one over an empty repository, and the service took its steps and no others.
+pub new-imported : (digest : List ℕ → List ℕ) (tenant : List ℕ) (all after : TenantStates) (r r' w w' : Device) (result : Result Unit StepFault)
+    → all ≡ [] → tenant ≡ codes "one"
+    → ((repository : Repository) → CanOpen tenant all repository → ImportsInto digest repository (HasImported digest tenant all after) r r' w w' result)
+    → ImportsInto digest empty_repository (HasImported digest tenant [] after) r r' w w' result
+new-imported digest tenant all after r r' w w' result none named imported =
+    imports-effect digest empty_repository (HasImported digest tenant all after) (HasImported digest tenant [] after) r r' w w' result
+    (λ ended bytes effect. subst (λ (held : TenantStates). HasImported digest tenant held after ended bytes) none effect)
+    (imported empty_repository (new-can-open tenant all none named))

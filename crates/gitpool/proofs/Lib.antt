@@ -2,6 +2,7 @@ mod ServeLemmas
 mod SizesLemmas
 mod HostLemmas
 mod HostedSteps
+mod Stretches
 mod StreamLemmas
 mod StepLemmas
 pub mod ImportLemmas

@@ -11,7 +11,7 @@ use Rattle.service_steps.specs.declared.frame_fault.FrameFault.TheVariants as fa
 use Rattle.service_steps.specs.declared.request.Request.{Request}
 use Rattle.service_steps.specs.declared.request.Request.TheVariants as request
 use Rattle.service_steps.specs.Frames.{answer_text}
-use Rattle.service_steps.specs.Requests.{request_frame, request_text, IsGoodRequest, IsUnfinishedRequest, IsCutOffRequest, IsBadRequest}
+use Rattle.service_steps.specs.Requests.{request_text, IsGoodRequest, IsUnfinishedRequest, IsCutOffRequest, IsBadRequest}
 use Rattle.service_steps.specs.StepFrames.{begins_no_request, is_step}
 use Rattle.tenant_service.specs.Headline.{Response, Run, IsIsolated}
 use Rattle.tenant_service.specs.TenantState.{held_of}
@@ -67,9 +67,22 @@ pub record TakesAll (digest : List ℕ → List ℕ) (before after : Hosted) (re
   pub leads : Leads digest before run after
   pub own : (tenant : List ℕ) → IsSpared tenant run → IsIsolated digest tenant
       (held_of tenant before.tenants) (steps_in run) (held_of tenant after.tenants)
-  pub good : AllByRecursion (λ taken. IsGoodRequest (request_frame taken.0)) run
+  pub good : AllByRecursion (λ taken. IsGoodRequest taken.0) run
   pub read : HasRead reader reader' (requests_text run ++ rest)
   pub bounded : length run ≤ frames_limit
+
+-- A part of a run, from what the requests before it left to what the requests after it met. In it
+-- every tenant that no request of the operator changes there is told, by the steps, what it is told
+-- in a repository of its own.
+pub record IsStretch (digest : List ℕ → List ℕ) (before after : Hosted)
+    (first stretch last : HostRun) : Type 0 where
+  pub begin : Hosted
+  pub end : Hosted
+  pub earlier : Leads digest before first begin
+  pub leads : Leads digest begin stretch end
+  pub later : Leads digest end last after
+  pub own : (tenant : List ℕ) → IsSpared tenant stretch → IsIsolated digest tenant
+      (held_of tenant begin.tenants) (steps_in stretch) (held_of tenant end.tenants)
 
 -- Exactly one call failed; or none did, and as many frames came as one call of `host` takes.
 abbrev pub IsHostToBlame : Device → Device → Device → Device → HostRun → Type 0

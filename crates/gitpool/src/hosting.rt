@@ -171,10 +171,11 @@ fn answer_requests<N: StreamingDigest, P: PoolPlace, R: Read, W: Write>(
 /// Steps are answered as by `serve`. The answers of the operator's requests are those of
 /// `Service::abandon`, `remove_tenant`, `compact_tenant` and `copy_tenant`. A Save replaces the
 /// pool file at `place`, and leaves the service as it is, its streams too: Ok after the file was
-/// replaced; Fault(68) if it could not be, and Memory(0) if memory ran out, which leave the old
-/// file. A Sizes has the lines of `sizes` as its reply, or Memory(0) without a reply. A Missing has
-/// 29 bytes for each object of `Service::missing`, and an Entries what `Service::entries` appends, or
-/// the number of their refusal or Memory(0) without a reply. At the end of the run nothing is saved.
+/// replaced; Fault(68) if a call of the place failed, and Memory(0) if memory ran out, which leave
+/// the old file: see `PoolPlace::put_in_place`. A Sizes has the lines of `sizes` as its reply, or
+/// Memory(0) without a reply. A Missing has 29 bytes for each object of `Service::missing`, and an
+/// Entries what `Service::entries` appends, or the number of their refusal or Memory(0) without a
+/// reply. At the end of the run nothing is saved.
 ///
 /// `BadFrame` (50), `CutOff` (51), `Memory` (90) and `Device` (68) are those of `serve`.
 pub fn host<N: StreamingDigest, P: PoolPlace, R: Read, W: Write>(

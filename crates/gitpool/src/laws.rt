@@ -10,9 +10,10 @@
 //! those calls. A repository of one commit meets the premises of all these laws
 //! (`one_commit_is_imported`).
 //!
-//! `hosting_of_steps_is_serving` says of `host` and `serve` that they do the same with steps.
+//! `hosting_of_steps_is_serving` says of `host` and `serve` that they do the same with steps, and
+//! `stretches_are_isolated` that tenants are kept apart between any two requests of the operator.
 
-pub use crate::hosting_laws::hosting_of_steps_is_serving;
+pub use crate::hosting_laws::{hosting_of_steps_is_serving, stretches_are_isolated};
 pub use export_laws::examples::one_commit_is_imported;
 pub use export_laws::laws::{
     blobs_are_told, commits_are_told, exports_are_imported, files_are_put, objects_are_told,

@@ -25,7 +25,8 @@ pub trait PoolPlace {
             (Self.NewFile.contents new) []) };
 
     /// Puts the new file in the place of the pool file, once it is on the disk. After an error the
-    /// pool file is as it was, and the new file is gone; see `WriteFault` for a file of a disk.
+    /// pool file is as it was, and the new file is gone. A file of a disk, whose bytes no clause
+    /// knows, is the new one after an error if only the sync of its folder failed.
     fn put_in_place(&mut self, new: Self::NewFile) -> Result<(), WriteFault>
         ensures put { OnOk result (IsPut (file self.old) (Self.NewFile.contents new)
             (file self.new)) }

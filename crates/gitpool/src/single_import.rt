@@ -1,10 +1,13 @@
 //! One stream of git-fast-import(1) over an empty repository that is not kept.
 
+ghost use Rattle.std.specs.Prelude.{[]};
 ghost use Rattle.git_objects.specs.Device.{device_of, seen};
 ghost use Rattle.git_model.specs.Repository.{Repository};
 ghost use Rattle.import_session.specs.Sound.{IsSoundRepository};
 ghost use Rattle.export_laws.specs.Copies.{CanBeCopied};
-ghost use Rattle.gitpool.specs.{Exports.{HasExport, TakesExport}, Import.{Imports}};
+ghost use Rattle.tenant_service.specs.TenantState.{empty_repository};
+ghost use Rattle.gitpool.specs.{Exports.{HasExport, TakesExport}, Import.{Imports, ImportsInto}};
+ghost use Rattle.gitpool.specs.Importing.{HasImported};
 
 use crate::importing::import;
 use crate::step_fault::StepFault;
@@ -27,6 +30,13 @@ pub fn import_new<N: Naming, R: Read, W: Write>(
     writer: &mut Counted<W>,
 ) -> (Service<N>, Result<(), StepFault>)
     ensures imported { Imports N.digest_of
+        (seen (R.remaining (device_of reader.old)) reader.old)
+        (seen (R.remaining (device_of reader.new)) reader.new)
+        (seen (W.contents (device_of writer.old)) writer.old)
+        (seen (W.contents (device_of writer.new)) writer.new) result.1 }
+    // The service is a new one that took the steps of this import, and no others.
+    ensures taken { ImportsInto N.digest_of empty_repository
+        (HasImported N.digest_of TENANT.now [] result.0)
         (seen (R.remaining (device_of reader.old)) reader.old)
         (seen (R.remaining (device_of reader.new)) reader.new)
         (seen (W.contents (device_of writer.old)) writer.old)

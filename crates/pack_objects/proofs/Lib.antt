@@ -1,3 +1,4 @@
 pub mod EntryTexts
+mod Begun
 pub mod MissingTold
 pub mod NamesMore

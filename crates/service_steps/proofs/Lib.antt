@@ -6,3 +6,4 @@ pub mod RequestLemmas
 pub mod PackRequests
 pub mod StepRequestLemmas
 pub mod WriteLemmas
+mod OneFrame

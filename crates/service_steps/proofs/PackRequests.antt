@@ -1,5 +1,5 @@
 -- The bodies of a Missing and an Entries are those of the requests that are read of them.
-use Rattle.std.proofs.Common.{◌≡◌, ℕ, zero, suc, ◌+◌, ◌*◌, ◌/◌, ◌≤◌, List, [], ◌∷◌, ◌++◌, length, take, drop, ap, ◌∙◌, arith}
+use Rattle.std.proofs.Common.{◌≡◌, ℕ, zero, suc, ◌+◌, ◌/◌, ◌≤◌, List, [], ◌∷◌, ◌++◌, length, take, drop, ap, ◌∙◌, arith}
 use Rattle.std.specs.Int.{w32, w64, from_be_bytes, to_be_bytes}
 use Rattle.std.proofs.lemmas.Nat.{be_bytes_4, be_bytes_8}
 use Rattle.std.proofs.lemmas.List.{length-take, take-append-drop}
@@ -28,14 +28,14 @@ entries_told body chunk names limit small splits is =
     (be_bytes_8 (take 8 body) limit (first_size 8 body there) (first_bytes 8 body small) (is ∙ ap (from_be_bytes w64) splits.0))
     ∙ ap (λ (l : List ℕ). take 8 body ++ l) splits.1 ∙ take-append-drop 8 body
 
-pub missing_told : (body chunk names wants haves : List ℕ) (count : ℕ) → AreBytes body → Splits 4 body chunk names
-    → count ≡ from_be_bytes w32 chunk → wants ≡ take (count * 20) names → haves ≡ drop (count * 20) names → length wants ≡ count * 20
+-- The names are cut anywhere after so many whole ones.
+pub missing_told : (body chunk names wants haves : List ℕ) (count cut : ℕ) → AreBytes body → Splits 4 body chunk names
+    → count ≡ from_be_bytes w32 chunk → wants ≡ take cut names → haves ≡ drop cut names → length wants / 20 ≡ count
     → missing_body wants haves ≡ body
-missing_told body chunk names wants haves count small splits is front back size =
+missing_told body chunk names wants haves count cut small splits is front back many =
     let there : 4 ≤ length body = let s = splits.2 in omega (arith, s) in
-    let many : length wants / 20 ≡ count = omega (arith, size) in
-    let parts : wants ++ haves ≡ drop 4 body = ap (λ (l : List ℕ). l ++ haves) front ∙ ap (λ (l : List ℕ). take (count * 20) names ++ l) back
-    ∙ take-append-drop (count * 20) names ∙ splits.1 in
+    let parts : wants ++ haves ≡ drop 4 body = ap (λ (l : List ℕ). l ++ haves) front ∙ ap (λ (l : List ℕ). take cut names ++ l) back
+    ∙ take-append-drop cut names ∙ splits.1 in
     ap (λ (n : ℕ). to_be_bytes w32 n ++ (wants ++ haves)) many
     ∙ ap (λ (l : List ℕ). l ++ (wants ++ haves))
     (be_bytes_4 (take 4 body) count (first_size 4 body there) (first_bytes 4 body small) (is ∙ ap (from_be_bytes w32) splits.0))

@@ -3,6 +3,7 @@ use Rattle.std.proofs.Common.{◌≡◌, ℕ, ◌+◌, ◌<◌, Bool, true, fals
 use Rattle.std.proofs.lemmas.Bool.{eqb-true}
 use Rattle.service_steps.specs.declared.kind.Kind.{Kind}
 use Rattle.service_steps.specs.declared.kind.Kind.TheVariants as kind
+use Rattle.service_steps.specs.declared.request.Request.TheVariants as request
 use Rattle.service_steps.specs.declared.request_kind.RequestKind.{RequestKind}
 use Rattle.service_steps.specs.declared.request_kind.RequestKind.TheVariants as of
 use Rattle.service_steps.specs.declared.step.Step.{Step}
@@ -61,8 +62,8 @@ same_wrong f none =
     ap (λ (o : Option RequestKind). shown_wrong_request o (length f.tenant) f.body) (same_kind f.kind none)
     ∙ same_part (kind_of f.kind) (length f.tenant) f.body
 
-pub good_step : (s : Step) → IsGoodRequest (frame_of s) → IsGood (frame_of s)
-good_step s good = (good.0, sym (same_wrong (frame_of s) (none s)) ∙ good.1)
+pub good_step : (s : Step) → IsGoodRequest (request.Step s) → IsGood (frame_of s)
+good_step s good = (good.0.0, sym (same_wrong (frame_of s) (none s)) ∙ good.0.1)
   where
     none : (s : Step) → is_operator_kind (frame_of s).kind ≡ false
     none (step.Open tenant) = refl

@@ -6,4 +6,5 @@ pub mod FrameFaults
 pub mod Reading
 pub mod Requests
 pub mod RequestReading
+pub mod Distinct
 pub mod StepFrames

@@ -1,5 +1,5 @@
 -- Frames of requests: the steps of a service, and what its operator asks for, as bytes.
-use Rattle.std.specs.Prelude.{ℕ, ◌+◌, ◌-◌, ◌/◌, ◌%◌, ◌==◌, ◌&&◌, Bool, true, nat_lt, nat_le, if◌then◌else◌, List, [], ◌∷◌, ◌++◌, length, take, Option, None, Some}
+use Rattle.std.specs.Prelude.{◌≡◌, ℕ, ◌+◌, ◌-◌, ◌/◌, ◌%◌, ◌^◌, ◌<◌, ◌==◌, ◌&&◌, Bool, true, nat_lt, nat_le, if◌then◌else◌, List, [], ◌∷◌, ◌++◌, length, take, Option, None, Some}
 use Rattle.std.specs.Int.{w32, w64, from_be_bytes, to_be_bytes}
 use Rattle.std.specs.List.{find}
 use Rattle.service_steps.specs.declared.kind.Kind.TheVariants as kind
@@ -87,10 +87,7 @@ shown_wrong_request (Some k) name body = wrong_request_part k name body
 abbrev pub wrong_request_at : Frame → Option ℕ
 wrong_request_at f = shown_wrong_request (request_kind_of f.kind) (length f.tenant) f.body
 
--- Good, unfinished, cut off and bad frames of requests.
-abbrev pub IsGoodRequest : Frame → Type 0
-IsGoodRequest f = IsGoodBy wrong_request_at f
-
+-- Unfinished, cut off and bad frames of requests.
 abbrev pub IsUnfinishedRequest : List ℕ → Type 0
 IsUnfinishedRequest bytes = IsUnfinishedBy wrong_request_at bytes
 
@@ -131,3 +128,14 @@ request_frame (request.Entries tenant limit names) =
 
 abbrev pub request_text : Request → List ℕ
 request_text r = frame_text (request_frame r)
+
+-- Names are whole: 20 bytes each. The limit of an Entries fits its eight bytes.
+abbrev pub IsWhole : Request → Type 0
+IsWhole (request.Missing tenant wants haves) =
+    (length wants.now % 20 ≡ 0) × (length haves.now % 20 ≡ 0)
+IsWhole (request.Entries tenant limit names) = (limit < 2 ^ 64) × (length names.now % 20 ≡ 0)
+IsWhole _ = Unit {0}
+
+-- A request that a good frame can say.
+abbrev pub IsGoodRequest : Request → Type 0
+IsGoodRequest r = IsGoodBy wrong_request_at (request_frame r) × IsWhole r

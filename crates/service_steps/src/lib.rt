@@ -10,6 +10,7 @@ mod fault;
 mod frame_fault;
 mod frames;
 mod kind;
+pub mod laws;
 mod reply;
 mod request;
 mod request_frames;

@@ -6,7 +6,7 @@ ghost use Rattle.std.specs.Prelude.{◌≡◌, ◌≤◌, length, true};
 ghost use Rattle.byte_devices.specs.Device.{device_of, seen};
 ghost use Rattle.service_steps.specs.Requests.{is_body, name_limit, request_framed, request_frame};
 ghost use Rattle.service_steps.specs.Requests.{request_limit, is_save_body, save_body};
-ghost use Rattle.service_steps.specs.Requests.{is_missing_body, is_entries_body};
+ghost use Rattle.service_steps.specs.Requests.{is_missing_body, is_entries_body, IsWhole};
 ghost use Rattle.service_steps.specs.RequestReading.{ReadsRequest};
 ghost use Rattle.service_steps.specs.declared.request_kind.RequestKind.TheVariants as of;
 
@@ -75,7 +75,8 @@ fn saved_as(body: &[u8]) -> SavedAs
 // The request of a Missing with this body.
 fn missing_request<'a>(tenant: &'a [u8], body: &'a [u8]) -> Request<'a>
     requires { is_missing_body body.now ≡ true }
-    ensures { request_frame result ≡ request_framed of.Missing tenant.now body.now }
+    ensures framed { request_frame result ≡ request_framed of.Missing tenant.now body.now }
+    ensures whole { IsWhole result }
 {
     let (count, names) = body.split_first_chunk::<4>().unwrap();
     let (wants, haves) = names.split_at(u32::from_be_bytes(*count) as usize * 20);
@@ -89,7 +90,8 @@ fn missing_request<'a>(tenant: &'a [u8], body: &'a [u8]) -> Request<'a>
 // The request of an Entries with this body.
 fn entries_request<'a>(tenant: &'a [u8], body: &'a [u8]) -> Request<'a>
     requires { is_entries_body body.now ≡ true }
-    ensures { request_frame result ≡ request_framed of.Entries tenant.now body.now }
+    ensures framed { request_frame result ≡ request_framed of.Entries tenant.now body.now }
+    ensures whole { IsWhole result }
 {
     let (limit, names) = body.split_first_chunk::<8>().unwrap();
     Request::Entries {
@@ -104,7 +106,8 @@ fn request_of<'a>(kind: RequestKind, name: &'a [u8], body: &'a [u8]) -> Request<
     requires name { length name.now ≤ name_limit kind }
     requires body { length body.now ≤ request_limit kind }
     requires good { is_body kind body.now ≡ true }
-    ensures { request_frame result ≡ request_framed kind name.now body.now }
+    ensures framed { request_frame result ≡ request_framed kind name.now body.now }
+    ensures whole { IsWhole result }
 {
     match kind {
         RequestKind::Step(kind) => Request::Step(step_of(kind, name, body)),

@@ -4,8 +4,8 @@ use Rattle.service_steps.specs.declared.request_kind.RequestKind.TheVariants as 
 use Rattle.service_steps.proofs.PackRequests.{entries_told}
 use Rattle.service_steps.proofs.request_frames.entries_request.Goals as goal
 
-pub returns : goal.returns
-returns c =
+pub returns-clause-framed : goal.returns-clause-framed
+returns-clause-framed c =
     ap (request_framed of.Entries c.args.tenant.now)
     (entries_told c.args.body.now c.unwrap.result.0.now c.unwrap.result.1.now c.from_be_bytes.result (λ i. let t = c.type_inv.body i in omega (arith, t))
     (rw c.unwrap.ensures at c.split_first_chunk.ensures.cases) c.from_be_bytes.ensures)

@@ -18,5 +18,6 @@ request_of-requires g c =
 
 pub returns-in-Ok-Some : goal.returns-in-Ok-Some
 returns-in-Ok-Some g c =
-    same_read wrong_request_at _ _ _ _ (c.request_of.ensures ∙ (λ i. request_framed c.in-Ok-Some.kind (c.deref.ensures.value i) (c.deref-in-Ok-Some.ensures.value i)))
-    (rw c.in-Ok-Some.field-0-is at c.in-Ok-Some.ensures.reads)
+    let read = same_read wrong_request_at _ _ _ _ (c.request_of.ensures.framed ∙ (λ i. request_framed c.in-Ok-Some.kind (c.deref.ensures.value i) (c.deref-in-Ok-Some.ensures.value i)))
+    (rw c.in-Ok-Some.field-0-is at c.in-Ok-Some.ensures.reads) in
+    ((read.0, c.request_of.ensures.whole), read.1)
