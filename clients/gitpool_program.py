@@ -248,7 +248,7 @@ class Run(Channel):
         if self._room is not None:
             self.kill()
             return
-        self._end_input()
+        self.end_input()
         self.output.read()
         status = self._process.wait()
         if status:
@@ -265,7 +265,7 @@ class Run(Channel):
 
     def lost(self) -> ServiceError:
         """Waits for the program, and gives what it said."""
-        self._end_input()
+        self.end_input()
         return self._error(self._process.wait())
 
     def _remove_left(self) -> None:
@@ -285,7 +285,8 @@ class Run(Channel):
         finally:
             os.close(left)
 
-    def _end_input(self) -> None:
+    def end_input(self) -> None:
+        """Tells the program that no more steps come."""
         self._let_guard_go()
         try:
             self.input.close()

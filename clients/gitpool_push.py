@@ -210,13 +210,13 @@ class Push:
         return stream.finish(last)
 
     def _look_again(self, judged: List[Judged]) -> None:
-        """Reads the refs once more, for a server, here or behind ssh, takes other pushes until the stream is open. Raises Refusal where a
-        ref that this push sets was changed since, or where git could not have it beside a new one."""
+        """Reads the refs once more, and HEAD, for others push until the stream is open. Raises Refusal where a ref that this push sets was
+        changed since, or where git could not have it beside a new one."""
         now = {ref.name: ref.target.encode() for ref in self._service.refs(self._tenant)}
         for ref in [*(it.update.ref for it in judged), *(_TAGS + tag.name for tag in self._tags.values())]:
             if now.get(ref) != self._refs.get(ref):
                 raise Refusal(f"{os.fsdecode(ref)} was changed by another push; fetch first")
-        self._refs = now
+        self._refs, self._head = now, self._service.head(self._tenant)
         for why in self._nested_refs(judged).values():
             raise Refusal(why)
 

@@ -171,12 +171,22 @@ class Helper:
     # The service
 
     def _start(self, writes: bool) -> Service:
+        """A service that tells what is there. It locks nothing; what answers a push over ssh locks once all has come."""
         address = self._address
         if address.host:
             return Service(command=ssh_words(self._local, address, "push" if writes else "fetch"))
         if not writes and not os.path.exists(address.pool):
             raise UsageError(f"there is no pool file {address.pool}" + ("" if os.path.isabs(address.pool) else f" in {os.getcwd()}"))
-        return Service(address.pool, read_only=not writes)
+        return Service(address.pool, read_only=True)
+
+    def _start_to_write(self) -> Service:
+        """A service that takes a push, which git waits for no more: a pool file of this machine is locked from here on."""
+        asked, self._service = self._service, None
+        if self._address.host:
+            return asked or self._start(True)
+        if asked:
+            asked.kill()
+        return Service(self._address.pool)
 
     def _list(self, writes: bool) -> None:
         if self._wants(b"object-format"):
@@ -265,8 +275,7 @@ class Helper:
         """Makes the updates, and gives those that were not made, and why."""
         from gitpool_push import Push
 
-        service = self._service or self._start(True)
-        self._service = None
+        service = self._start_to_write()
         try:
             push = Push(service, self._address.tenant, self._local, self._refs, self._head, self._progress.count)
             judged, refused = push.judge(updates)

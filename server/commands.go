@@ -2,7 +2,10 @@ package main
 
 import (
 	"bufio"
+	"crypto"
+	"crypto/ecdsa"
 	"crypto/ed25519"
+	"crypto/elliptic"
 	"crypto/rand"
 	"crypto/x509"
 	"encoding/pem"
@@ -20,6 +23,7 @@ import (
 	"gitpoold/access"
 	"gitpoold/hooks"
 	"gitpoold/limits"
+	"gitpoold/lists"
 	"gitpoold/operator"
 	"gitpoold/shards"
 )
@@ -47,12 +51,39 @@ func program(flag string) (string, error) {
 	return exec.LookPath("gitpool")
 }
 
-const (
-	accessText  = "# USER PATTERN RIGHT: the user * is everyone; a pattern is acme/site, acme/* or *; a right is r or rw.\n"
-	hooksText   = "# PATTERN WHERE: a program or an http address that is told of pushes; `gitpoold hooks` changes them.\n"
-	blockedText = "# user NAME WHY, or tenant NAME WHY: `gitpoold block` and `gitpoold unblock` change them.\n"
-	limitsText  = "# NAME VALUE, quota TENANT VALUE, or daily-bytes USER VALUE: `gitpoold limits` lists and sets them.\n"
-)
+// listed are the lists of a folder, and what `init` writes into each.
+var listed = []struct{ name, comment string }{
+	{"access", "# USER PATTERN RIGHT: the user * is everyone; a pattern is acme/site, acme/* or *; a right is r or rw."},
+	{"passwords", "# USER HASH: `gitpoold user` changes them."},
+	{"keys", "# USER TYPE KEY: `gitpoold user` changes them."},
+	{"limits", "# NAME VALUE, quota TENANT VALUE, or daily-bytes USER VALUE: `gitpoold limits` lists and sets them."},
+	{"hooks", "# PATTERN WHERE: a program or an http address that is told of pushes; `gitpoold hooks` changes them."},
+	{"owners", "# TENANT USER: the server writes who made each tenant."},
+	{"blocked", "# user NAME WHY, or tenant NAME WHY: `gitpoold block` and `gitpoold unblock` change them."},
+}
+
+// createLists makes the lists that a folder lacks, unless its server has had them.
+func createLists(folder string) error {
+	for _, it := range listed {
+		path := filepath.Join(folder, it.name)
+		if _, err := lists.Read(path); err != nil {
+			return err
+		}
+		if err := createFile(path, lists.Text(it.comment)); err != nil {
+			return err
+		}
+	}
+	return nil
+}
+
+// beginLists lets a server have all lists of its folder.
+func beginLists(folder string) error {
+	names := make([]string, len(listed))
+	for at, it := range listed {
+		names[at] = it.name
+	}
+	return lists.Begin(folder, names...)
+}
 
 // runInit makes what a folder lacks.
 func runInit(l line) error {
@@ -75,14 +106,29 @@ func runInit(l line) error {
 	if err := shards.Create(folder, found, count, logs); err != nil {
 		return err
 	}
-	for name, text := range map[string]string{"access": accessText, "passwords": "", "keys": "", "limits": limitsText, "hooks": hooksText,
-		"blocked": blockedText} {
-		if err := createFile(filepath.Join(folder, name), text); err != nil {
+	if err := createLists(folder); err != nil {
+		return err
+	}
+	for _, it := range hostKeys {
+		if err := createHostKey(filepath.Join(folder, it.file), it.make); err != nil {
 			return err
 		}
 	}
-	return createHostKey(filepath.Join(folder, "host_key"))
+	return nil
 }
+
+// hostKeys are the files of the ssh server's keys. Each client takes the one that it knows or prefers: older ones, as of Java, know no ed25519.
+var hostKeys = []struct {
+	file string
+	make func() (crypto.Signer, error)
+}{{"host_key", makeEd25519}, {"host_key_ecdsa", makeECDSA}}
+
+func makeEd25519() (crypto.Signer, error) {
+	_, private, err := ed25519.GenerateKey(rand.Reader)
+	return private, err
+}
+
+func makeECDSA() (crypto.Signer, error) { return ecdsa.GenerateKey(elliptic.P256(), rand.Reader) }
 
 // shardCount tells how many shards `init` makes: as many as there are logs, else as `--shards` says, else those that there are.
 func shardCount(l line, logs int) (int, error) {
@@ -122,9 +168,12 @@ func createFile(path, text string) error {
 	return err
 }
 
-// createHostKey makes the key of the ssh server, and tells its fingerprint.
-func createHostKey(path string) error {
-	public, private, err := ed25519.GenerateKey(rand.Reader)
+// createHostKey makes a key of the ssh server, unless there is one, and tells its fingerprint.
+func createHostKey(path string, make func() (crypto.Signer, error)) error {
+	if _, err := os.Stat(path); err == nil {
+		return nil
+	}
+	private, err := make()
 	if err != nil {
 		return err
 	}
@@ -132,17 +181,14 @@ func createHostKey(path string) error {
 	if err != nil {
 		return err
 	}
-	key, err := ssh.NewPublicKey(public)
+	key, err := ssh.NewPublicKey(private.Public())
 	if err != nil {
 		return err
-	}
-	if _, err := os.Stat(path); err == nil {
-		return nil
 	}
 	if err := createFile(path, string(pem.EncodeToMemory(&pem.Block{Type: "PRIVATE KEY", Bytes: bytes}))); err != nil {
 		return err
 	}
-	fmt.Printf("host key %s\n", ssh.FingerprintSHA256(key))
+	fmt.Printf("host key %s (%s)\n", ssh.FingerprintSHA256(key), key.Type())
 	return createFile(path+".pub", string(ssh.MarshalAuthorizedKey(key)))
 }
 

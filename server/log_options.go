@@ -10,6 +10,7 @@ import (
 	"time"
 
 	"gitpoold/journal"
+	"gitpoold/regular"
 	"gitpoold/shards"
 )
 
@@ -84,7 +85,7 @@ const leastTakeOver = 2 * time.Second
 
 // redisPassword reads the password of Redis, which is empty where there is no such file.
 func redisPassword(path string) (string, error) {
-	text, err := os.ReadFile(path)
+	text, err := regular.Read(path)
 	if errors.Is(err, os.ErrNotExist) {
 		return "", nil
 	}

@@ -9,7 +9,9 @@ import (
 	"syscall"
 
 	"gitpoold/journal"
+	"gitpoold/lists"
 	"gitpoold/poolfile"
+	"gitpoold/regular"
 	"gitpoold/shards"
 	"gitpoold/store"
 )
@@ -76,7 +78,7 @@ func commands() []command {
 		{"remove", "DIR TENANT", "remove a tenant", 2, 2, []string{"--socket"}, runCall},
 		{"compact", "DIR TENANT", "drop what no ref of a tenant reaches", 2, 2, []string{"--socket"}, runCall},
 		{"move", "DIR TENANT SHARD", "move a tenant to another shard", 3, 3, []string{"--socket"}, runCall},
-		{"limits", "DIR [NAME VALUE | quota TENANT VALUE | daily-bytes|daily-child USER VALUE]", "list the limits, or set one; the value `default` unsets it", 1, 4, nil, runLimits},
+		{"limits", "DIR [NAME VALUE | quota TENANT VALUE | user-bytes|user-tenants|daily-bytes|daily-child USER VALUE]", "list the limits, or set one; the value `default` unsets it", 1, 4, nil, runLimits},
 		{"block", "DIR [user|tenant NAME [WHY]]", "refuse everything to a user, or pushes and streams to a tenant, and tell them why; without a name list " +
 			"what is blocked", 1, 4, nil, runBlock},
 		{"unblock", "DIR user|tenant NAME", "take a block back", 3, 3, nil, runUnblock},
@@ -126,10 +128,12 @@ func statusOf(err error) int {
 	var bad *journal.BadLog
 	var two *shards.TwoPlaces
 	var missing *shards.Missing
+	var lost *lists.Lost
+	var notFile *regular.NotFile
 	switch {
 	case errors.As(err, &bad) && bad.IsTaken:
 		return statusDevice
-	case errors.As(err, &damaged), errors.As(err, &bad), errors.As(err, &two), errors.As(err, &missing), errors.Is(err, poolfile.ErrForm), errors.Is(err, store.ErrLoad):
+	case errors.As(err, &damaged), errors.As(err, &bad), errors.As(err, &two), errors.As(err, &missing), errors.As(err, &lost), errors.As(err, &notFile), errors.Is(err, poolfile.ErrForm), errors.Is(err, store.ErrLoad):
 		return statusDamaged
 	case errors.Is(err, store.ErrInHand), errors.Is(err, os.ErrNotExist), errors.Is(err, os.ErrPermission), errors.Is(err, syscall.EROFS):
 		return statusDevice

@@ -26,6 +26,8 @@ import (
 	"gitpoold/markdown"
 	"gitpoold/metrics"
 	"gitpoold/operator"
+	"gitpoold/owners"
+	"gitpoold/regular"
 	"gitpoold/shards"
 	"gitpoold/site"
 	"gitpoold/sshd"
@@ -109,6 +111,9 @@ func open(l line) (*server, error) {
 	if err != nil {
 		return nil, err
 	}
+	if err := beginLists(folder); err != nil {
+		return nil, err
+	}
 	bounds, err := limits.Load(folder, log.Printf)
 	if err != nil {
 		return nil, err
@@ -122,13 +127,20 @@ func open(l line) (*server, error) {
 	if err != nil {
 		return nil, err
 	}
-	second := func() int64 { return bounds.Get().SecondChild }
+	second := func() int64 { return bounds.Fresh().SecondChild }
 	pool, err := openShards(l, store.Config{Folder: folder, Program: found, ChildMemory: values.ChildMemory, SecondChild: second,
 		Copy: l.flags["--pool-copy"], Stop: stopAtOnce, Tell: log.Printf})
 	if err != nil {
 		return nil, err
 	}
-	s := &site.Site{Pool: tenants.New(pool, bounds.Quota), Access: who, Limits: bounds, Log: log, Metrics: m, Hooks: told, Version: version, Elsewhere: pool.Follows,
+	made, err := owners.Open(folder, bounds.Owned, pool.Bytes)
+	if err != nil {
+		pool.Close(context.Background())
+		return nil, err
+	}
+	all := tenants.New(pool, bounds.Quota)
+	all.Bound(made)
+	s := &site.Site{Pool: all, Owners: made, Access: who, Limits: bounds, Log: log, Metrics: m, Hooks: told, Version: version, Elsewhere: pool.Follows,
 		Daily: daily.Open(filepath.Join(folder, "usage"), bounds.Daily, log.Printf),
 		Work:  filepath.Join(folder, "work"), Markdown: markdown.HTML}
 	door := operator.New(s, pool)
@@ -218,11 +230,10 @@ func (s *server) certificate() (*tls.Config, error) {
 	if err != nil {
 		return nil, err
 	}
-	return &tls.Config{MinVersion: tls.VersionTLS12, NextProtos: []string{"http/1.1"},
-		GetCertificate: func(*tls.ClientHelloInfo) (*tls.Certificate, error) {
-			it := followed.Get()
-			return &it, nil
-		}}, nil
+	return httpd.TLS(func() *tls.Certificate {
+		it := followed.Get()
+		return &it
+	}), nil
 }
 
 func (s *server) ssh() (*way, error) {
@@ -230,13 +241,9 @@ func (s *server) ssh() (*way, error) {
 	if !has {
 		return nil, nil
 	}
-	text, err := os.ReadFile(filepath.Join(s.line.folder(), "host_key"))
+	keys, err := s.hostKeys()
 	if err != nil {
 		return nil, err
-	}
-	key, err := ssh.ParsePrivateKey(text)
-	if err != nil {
-		return nil, fmt.Errorf("host_key: %w", err)
 	}
 	listener, err := net.Listen("tcp", address)
 	if err != nil {
@@ -244,7 +251,26 @@ func (s *server) ssh() (*way, error) {
 	}
 	s.site.SSHPort = listener.Addr().(*net.TCPAddr).Port
 	return &way{"ssh", s.site.Limits.ListenIdle(listener),
-		func(ctx context.Context, listener net.Listener) error { return sshd.Serve(ctx, listener, s.site, key) }}, nil
+		func(ctx context.Context, listener net.Listener) error { return sshd.Serve(ctx, listener, s.site, keys) }}, nil
+}
+
+// hostKeys reads the keys of the ssh server. A folder of an older version has the first one alone.
+func (s *server) hostKeys() (keys []ssh.Signer, err error) {
+	for _, it := range hostKeys {
+		text, err := regular.Read(filepath.Join(s.line.folder(), it.file))
+		if errors.Is(err, os.ErrNotExist) && len(keys) > 0 {
+			continue
+		}
+		if err != nil {
+			return nil, err
+		}
+		key, err := ssh.ParsePrivateKey(text)
+		if err != nil {
+			return nil, fmt.Errorf("%s: %w", it.file, err)
+		}
+		keys = append(keys, key)
+	}
+	return keys, nil
 }
 
 // serve serves all ways until the context is done. Where one of them fails, all end.
@@ -276,6 +302,6 @@ func (s *server) serve(ctx context.Context, stop func(), ways []way) error {
 }
 
 func (s *server) rhythm() store.Rhythm {
-	values := s.site.Limits.Get()
+	values := s.site.Limits.Fresh()
 	return store.Rhythm{JournalBytes: values.JournalBytes, SaveEvery: values.SaveEvery, Step: values.Step}
 }

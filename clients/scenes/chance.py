@@ -80,7 +80,9 @@ class History:
             blob = room.git("source", "hash-object", "-w", "--stdin", data=b"%d" % chance.randrange(50)).decode().strip()
             room.git("source", "tag", "-f", "-a", "-m", "blob", "u", blob)
         else:
-            room.git("source", "update-ref", "-d", chance.choice(sorted(room.refs("source")) or ["refs/heads/none"]))
+            # git's own server keeps the branch that HEAD names, and so does gitpoold.
+            kept = set() if room.has_helper else {"refs/heads/main"}
+            room.git("source", "update-ref", "-d", chance.choice(sorted(set(room.refs("source")) - kept) or ["refs/heads/none"]))
 
 
 def by_chance(room: Room, seed: int) -> None:
@@ -88,7 +90,10 @@ def by_chance(room: Room, seed: int) -> None:
     history = History(room, seed)
     room.init("mirror", "--bare")
     room.git("mirror", "remote", "add", "--mirror=fetch", "origin", room.url())
-    room.git("source", "push", "-q", room.url(), history.root() + ":refs/heads/main")
+    root = history.root()
+    room.git("source", "push", "-q", room.url(), root + ":refs/heads/main")
+    if not room.has_helper:
+        room.git("source", "update-ref", "refs/heads/main", root)
     for _ in range(4):
         history.grow()
         room.git("source", "push", "-q", "--mirror", room.url())

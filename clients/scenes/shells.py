@@ -78,9 +78,12 @@ def over_ssh_errors_arrive(room: Room) -> None:
     assert room.pool not in said, said
     room.git("", "clone", "-q", "gitpool::ssh://host", "meanwhile", GIT_SSH_COMMAND=ssh)
     assert held.stdin
+    waiting = subprocess.Popen(["git", "push", "-q", "gitpool::ssh://host", "main:refs/heads/x"], cwd=room.path(site),
+                               env=dict(room.environment, GIT_SSH_COMMAND=ssh))
+    time.sleep(1)
     held.stdin.close()
     held.wait()
-    room.git(site, "push", "-q", "gitpool::ssh://host", "main:refs/heads/x", GIT_SSH_COMMAND=ssh)
+    assert waiting.wait(60) == 0 and room.tenant_refs()["refs/heads/x"] == room.name(site, "main")
 
 
 @scene
@@ -112,9 +115,10 @@ def over_ssh_a_program_that_is_killed(room: Room) -> None:
     before = room.tenant_refs()
     room.commit(site, "New", {"new": "n\n"})
     ssh = forced(room, "--pool", room.pool, "acme/site")
-    # It has answered everything, and is killed before it saves.
+    # The run that locks has answered everything, and is killed before it saves.
     os.mkfifo(room.path("input"))
-    killed = stand_in(room, f'"$PROGRAM" "$@" < {room.path("input")} & exec 9> {room.path("input")}\ncat >&9\nkill -9 $!\nkill -9 $$')
+    asks = f'case "$*" in *{room.pool}) ;; *) exec "$PROGRAM" "$@" ;; esac\n'
+    killed = stand_in(room, asks + f'"$PROGRAM" "$@" < {room.path("input")} & exec 9> {room.path("input")}\ncat >&9\nkill -9 $!\nkill -9 $$')
     said = room.fails(site, "push", "gitpool::ssh://host", "main", says="ended by signal 9", GIT_SSH_COMMAND=ssh, GITPOOL=killed)
     assert "main -> main\n" not in said and room.tenant_refs() == before, said
     room.git(site, "push", "-q", "gitpool::ssh://host", "main", GIT_SSH_COMMAND=ssh)
@@ -147,6 +151,54 @@ def over_ssh_a_silent_client(room: Room) -> None:
     room.commit(site, "New", {"new": "n\n"})
     room.git(site, "push", "-q", "pool", "main")
     room.same(site)
+
+
+@scene
+def a_push_that_sends_nothing_keeps_nobody(room: Room) -> None:
+    """Over ssh and here: others push while one has been told the refs and sends no more. When it goes on, it is told what changed."""
+    site = room.pushed()
+    ssh = forced(room, "--pool", room.pool, "acme/site")
+    new = room.commit(site, "New", {"new": "n\n"})
+    git_folder = room.git(site, "rev-parse", "--absolute-git-dir").decode().strip()
+    for number, address in enumerate(("ssh://host", f"{room.pool}#acme/site")):
+        helper = subprocess.Popen(["git-remote-gitpool", "pool", address], cwd=room.path(site), stdin=subprocess.PIPE, stdout=subprocess.PIPE,
+                                  env=dict(room.environment, GIT_DIR=git_folder, GIT_SSH_COMMAND=ssh))
+        assert helper.stdin and helper.stdout
+        helper.stdin.write(b"list for-push\n")
+        helper.stdin.flush()
+        while helper.stdout.readline() != b"\n":
+            pass
+        room.git(site, "push", "-q", room.url(f"acme/other{number}"), "main")
+        room.git(site, "push", "-q", "pool", f"main~1:refs/heads/first{number}")
+        before = room.tenant_refs()
+        told, _ = helper.communicate(f"push {new}:refs/heads/first{number}\n\n\n".encode(), 60)
+        assert told.startswith(b"error refs/heads/first") and b"another push" in told, told
+        assert room.tenant_refs() == before
+    room.git(site, "push", "-q", "pool", "main")
+    room.same(site, refs=dict(room.refs(site, "refs/heads", "refs/tags"), **{ref: before[ref] for ref in before if "first" in ref}))
+
+
+@scene
+def over_ssh_a_push_that_is_overtaken(room: Room) -> None:
+    """Another push comes in after the first has sent all but its end: the first is refused as a whole, and the pool file is as the other left it.
+    Where the other was of another tenant, both last."""
+    site = room.pushed()
+    room.commit(site, "New", {"new": "n\n"})
+    room.git(site, "push", "-q", room.url("copy"), "main", GITPOOL=room.recording())
+    frames = b"".join(write_step(Step(Kind(kind), b"t", body)) for kind, body in room.recorded())
+    for other, status in (("acme/site", 4), ("acme/other", 0)):
+        words = ["gitpool-shell", "--pool", room.pool, "acme/overtaken" if status == 0 else "acme/site", "push"]
+        process = subprocess.Popen(words, env=room.environment, stdin=subprocess.PIPE, stdout=subprocess.PIPE, stderr=subprocess.PIPE)
+        assert process.stdin and process.stdout
+        process.stdin.write(frames)
+        process.stdin.flush()
+        process.stdout.read(17)
+        room.git(site, "push", "-q", room.url(other), "main~1:refs/heads/between")
+        before = room.pool_bytes()
+        _, said = process.communicate(timeout=60)
+        assert process.returncode == status, said
+        assert status == 0 or b"another push has changed the tenant" in said and room.pool_bytes() == before, said
+    assert room.tenant_refs("acme/overtaken") == {"refs/heads/main": room.name(site, "main")}
 
 
 @scene

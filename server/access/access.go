@@ -77,7 +77,8 @@ type Access struct {
 	proofs   proofs
 	throttle throttle
 	met      met
-	places   *turns.Places
+	// queues let tries out one by one, and places bounds how many of these are hashed at once.
+	queues, places *turns.Places
 	// Patience is how long a password waits for its turn.
 	Patience time.Duration
 	// nobody is the hash with which the password of a user that there is not is compared, so that it takes as long.
@@ -94,7 +95,7 @@ func Load(folder string, tell func(format string, values ...any)) (*Access, erro
 	}
 	nobody, err := hashOfNobody()
 	return &Access{rules: followed, proofs: newProofs(), throttle: newThrottle(), met: met{from: map[string]map[string]bool{}},
-		places: turns.New(hashes), Patience: patience, nobody: nobody}, err
+		queues: turns.New(oneByOne), places: turns.New(hashes), Patience: patience, nobody: nobody}, err
 }
 
 var nobody struct {
@@ -110,6 +111,9 @@ func hashOfNobody() ([]byte, error) {
 	})
 	return nobody.hash, nobody.err
 }
+
+// Unread says why the lists cannot be read, so that what was read before holds. It is nil where they can.
+func (a *Access) Unread() error { return a.rules.Unread() }
 
 func readRules(folder string) (*rules, error) {
 	r := &rules{map[string][]grant{}, map[string]string{}, map[string]string{}, map[string]string{}}

@@ -8,6 +8,8 @@ import (
 	"os"
 	"path/filepath"
 	"strings"
+	"sync"
+	"sync/atomic"
 	"testing"
 	"time"
 
@@ -149,12 +151,75 @@ func TestWrongTriesAreSlowed(t *testing.T) {
 	if tries > 9 {
 		t.Fatal(tries)
 	}
-	if got := waitOf(1000, longestWaits[0]); got != longestWaits[0] {
+	if got := waitOf(1000, longestInQueue); got != longestInQueue {
 		t.Fatal("after a thousand tries:", got)
 	}
 	began := time.Now()
 	if !lets(a, "alice", "correct horse", "198.51.100.7:9") || time.Since(began) > 4*time.Second {
 		t.Fatal("who has the password is kept out from elsewhere")
+	}
+}
+
+// TestTriesSideBySideAreSlowedToo has sixty tries at once behind one address, again and again, for two seconds. Alice was let in from there before, and
+// is let in at once; carol is a stranger there, and is the next one to be let in.
+func TestTriesSideBySideAreSlowedToo(t *testing.T) {
+	folder := t.TempDir()
+	a := loaded(t, folder)
+	must(t, SetPassword(folder, "alice", "correct horse"))
+	must(t, SetPassword(folder, "carol", "correct mouse"))
+	must(t, a.Password(background, "alice", "correct horse", "192.0.2.1:1"))
+	a.proofs = newProofs()
+	ctx, stop := context.WithTimeout(background, 2*time.Second)
+	defer stop()
+	var tries atomic.Int64
+	var all sync.WaitGroup
+	for at := 0; at < 60; at++ {
+		all.Add(1)
+		go func() {
+			defer all.Done()
+			for ctx.Err() == nil {
+				if a.Password(ctx, "bob", "wrong horse", "192.0.2.1:7") == ErrWrong {
+					tries.Add(1)
+				}
+			}
+		}()
+	}
+	for tries.Load() < freeTries+1 {
+		time.Sleep(time.Millisecond)
+	}
+	began := time.Now()
+	must(t, a.Password(background, "alice", "correct horse", "192.0.2.1:8"))
+	if took := time.Since(began); took > 500*time.Millisecond {
+		t.Errorf("who was let in before waits for %v", took)
+	}
+	before := tries.Load()
+	must(t, a.Password(background, "carol", "correct mouse", "192.0.2.1:9"))
+	if others := tries.Load() - before; others > 2 {
+		t.Errorf("who has the password waits for %d others", others)
+	}
+	all.Wait()
+	if count := tries.Load(); count > 10 {
+		t.Errorf("%d tries", count)
+	}
+}
+
+// TestGuessesForWhoIsKnownThereAreSlowed guesses the password of a user who was let in from the same address before.
+func TestGuessesForWhoIsKnownThereAreSlowed(t *testing.T) {
+	folder := t.TempDir()
+	a := loaded(t, folder)
+	must(t, SetPassword(folder, "alice", "correct horse"))
+	must(t, a.Password(background, "alice", "correct horse", "192.0.2.1:1"))
+	ctx, stop := context.WithTimeout(background, 1500*time.Millisecond)
+	defer stop()
+	tries := 0
+	for ; ctx.Err() == nil; tries++ {
+		_ = a.Password(ctx, "alice", "wrong horse", "192.0.2.1:1")
+	}
+	if tries > 9 {
+		t.Fatal(tries)
+	}
+	if began := time.Now(); lets(a, "bob", "wrong horse", "192.0.2.1:1") || time.Since(began) > 500*time.Millisecond {
+		t.Fatal("whoever else calls from there waits")
 	}
 }
 
@@ -211,7 +276,7 @@ func TestNamesOfStrangersAreNotKept(t *testing.T) {
 func TestCountsOfTriesAreBounded(t *testing.T) {
 	h := newThrottle()
 	for i := 0; i < 3*mostCounts; i++ {
-		h.note(string(rune(i)) + "x")
+		h.note(string(rune(i))+"x", "for alice")
 	}
 	if len(h.counts) > mostCounts+2 {
 		t.Fatal(len(h.counts))
@@ -252,7 +317,7 @@ func TestKeys(t *testing.T) {
 	if _, err := AddKeys(folder, "alice", both); err != nil {
 		t.Error(err)
 	}
-	if lines, _ := os.ReadFile(filepath.Join(folder, "keys")); strings.Count(string(lines), "\n") != 2 {
+	if lines, _ := os.ReadFile(filepath.Join(folder, "keys")); strings.Count(string(lines), "\nalice ") != 2 {
 		t.Errorf("%s", lines)
 	}
 	if _, err := AddKeys(folder, "alice", []byte("no key\n")); err == nil {

@@ -5,6 +5,7 @@ import (
 	"fmt"
 	"path/filepath"
 	"strings"
+	"time"
 
 	"gitpoold/lists"
 	"gitpoold/tenants"
@@ -33,7 +34,12 @@ func (b *Blocked) Error() string {
 
 // Blocked is *Blocked where the operator has blocked the user, or has blocked the tenant and the right would change it.
 func (a *Access) Blocked(user, tenant string, right Right) error {
-	r := a.rules.Get()
+	return a.BlockedWithin(0, user, tenant, right)
+}
+
+// BlockedWithin is what Blocked was so long ago at most, for who asks again and again.
+func (a *Access) BlockedWithin(age time.Duration, user, tenant string, right Right) error {
+	r := a.rules.Within(age)
 	if why, is := r.blocked[User+" "+user]; is {
 		return &Blocked{User, why}
 	}

@@ -6,6 +6,7 @@ import (
 	"crypto/rand"
 	"crypto/sha256"
 	"errors"
+	"math"
 	"net"
 	"sync"
 	"time"
@@ -20,6 +21,9 @@ const (
 	acquainted = turns.First
 	strangers  = turns.Second
 )
+
+// oneByOne lets one try at a time out of each queue, however many queues there are.
+var oneByOne = turns.Limits{Places: math.MaxInt32, OfKind: [2]int{math.MaxInt32, math.MaxInt32}, OfOneOfIt: [2]int{1, 1}}
 
 // hashes bounds how many passwords are hashed at once, so that tries take no more than two processors. A hash takes little time, so those of one kind
 // may have both places while nobody of the other waits.
@@ -43,9 +47,8 @@ var (
 	ErrBusy  = errors.New("the server looks at as many passwords as it can; try again")
 )
 
-// Password is nil where this is the password of a user who calls from an address, else ErrWrong. Tries that follow wrong ones wait first: those
-// from one address up to ten seconds, those for one user from several addresses up to one. Then each waits for its turn, and is ErrBusy where
-// that does not come within Patience, or the context ends.
+// Password is nil where this is the password of a user who calls from an address, else ErrWrong. Tries for one user that follow wrong ones wait up to a
+// second. Then each waits for its turn, and is ErrBusy where that does not come within Patience, or the context ends.
 func (a *Access) Password(ctx context.Context, user, password, address string) error {
 	hash, known := a.rules.Get().passwords[user]
 	if known && a.proofs.has(user, hash, password) {
@@ -56,21 +59,48 @@ func (a *Access) Password(ctx context.Context, user, password, address string) e
 		user = ""
 	}
 	from := Network(address)
-	if !a.throttle.wait(ctx, "from "+from, "for "+user) {
+	if !a.throttle.wait(ctx, "for "+user) {
 		return ErrBusy
 	}
+	ctx, stop := context.WithTimeout(ctx, a.Patience)
+	defer stop()
+	queue := a.queueOf(user, from)
+	done, err := a.queues.Enter(ctx, strangers, queue, user)
+	if err != nil {
+		return ErrBusy
+	}
+	err = a.judge(ctx, user, password, from)
+	if err == ErrWrong {
+		// The next one of this queue has its turn after a while, whoever it is by then.
+		time.AfterFunc(a.throttle.note(queue, "for "+user), done)
+	} else {
+		done()
+	}
+	return err
+}
+
+// queueOf names the queue in which a try waits, one behind another: that of its network; or one of its own, where the user was let in from there before.
+// So whoever guesses the passwords of others does not keep out those who are at home there.
+func (a *Access) queueOf(user, from string) string {
+	if a.met.has(user, from) {
+		return "from " + from + " by " + user
+	}
+	return "from " + from
+}
+
+// judge compares a password with that of the user, when it has its turn.
+func (a *Access) judge(ctx context.Context, user, password, from string) error {
 	leave, err := a.enter(ctx, user, from)
 	if err != nil {
 		return ErrBusy
 	}
 	defer leave()
+	hash, known := a.rules.Get().passwords[user]
 	compared := []byte(hash)
 	if !known {
 		compared = a.nobody
 	}
-	right := bcrypt.CompareHashAndPassword(compared, []byte(password)) == nil && known && len(password) <= longestPassword
-	if !right {
-		a.throttle.note("from "+from, "for "+user)
+	if bcrypt.CompareHashAndPassword(compared, []byte(password)) != nil || !known || len(password) > longestPassword {
 		return ErrWrong
 	}
 	a.proofs.add(user, hash, password)
@@ -78,10 +108,8 @@ func (a *Access) Password(ctx context.Context, user, password, address string) e
 	return nil
 }
 
-// enter waits for a turn. Networks take turns, and the users of one among themselves; users who were let in from there before take turns apart.
+// enter waits for a place to hash. Networks take turns, and the users of one among themselves; users who were let in from there before take turns apart.
 func (a *Access) enter(ctx context.Context, user, from string) (leave func(), err error) {
-	ctx, stop := context.WithTimeout(ctx, a.Patience)
-	defer stop()
 	if a.met.has(user, from) {
 		return a.places.Enter(ctx, acquainted, user, from)
 	}
@@ -183,8 +211,11 @@ const (
 	mostCounts  = 1 << 16
 )
 
-// longestWaits are for the address and for the user.
-var longestWaits = [...]time.Duration{10 * time.Second, time.Second}
+// The longest waits: between two tries of one queue, and of each try for a user, from wherever.
+const (
+	longestInQueue = 10 * time.Second
+	longestForUser = time.Second
+)
 
 func newThrottle() throttle { return throttle{counts: map[string]tries{}} }
 
@@ -212,15 +243,10 @@ func waitOf(count int, longest time.Duration) time.Duration {
 	return wait
 }
 
-// wait waits as long as the tries before ask for, and tells whether the context lasted.
-func (t *throttle) wait(ctx context.Context, keys ...string) bool {
+// wait waits as long as the tries for a user before ask for, and tells whether the context lasted.
+func (t *throttle) wait(ctx context.Context, user string) bool {
 	t.mutex.Lock()
-	wait := time.Duration(0)
-	for i, key := range keys {
-		if its := waitOf(t.counts[key].left(time.Now()), longestWaits[i]); its > wait {
-			wait = its
-		}
-	}
+	wait := waitOf(t.counts[user].left(time.Now()), longestForUser)
 	t.mutex.Unlock()
 	if wait == 0 {
 		return ctx.Err() == nil
@@ -235,17 +261,18 @@ func (t *throttle) wait(ctx context.Context, keys ...string) bool {
 	}
 }
 
-// note counts a wrong try.
-func (t *throttle) note(keys ...string) {
+// note counts a wrong try, and tells how long the next one of its queue has to wait.
+func (t *throttle) note(queue, user string) time.Duration {
 	t.mutex.Lock()
 	defer t.mutex.Unlock()
 	now := time.Now()
 	if len(t.counts) > mostCounts {
 		t.forget(now)
 	}
-	for _, key := range keys {
+	for _, key := range []string{queue, user} {
 		t.counts[key] = tries{t.counts[key].left(now) + 1, now}
 	}
+	return waitOf(t.counts[queue].count, longestInQueue)
 }
 
 // forget drops the counts that fell to nothing; where that is not enough, all.

@@ -7,11 +7,12 @@ package answers
 
 import (
 	"encoding/base64"
+	"errors"
 	"fmt"
+	"os"
 	"path/filepath"
 	"regexp"
 	"sort"
-	"strings"
 	"sync"
 
 	"gitpoold/lists"
@@ -86,20 +87,42 @@ type Kept struct {
 	isChanged bool
 }
 
-// Open reads the answers of a folder's file `answers`; one that is not there has none.
-func Open(folder string) (*Kept, error) {
+// Open reads the answers of a folder's file `answers`; one that is not there has none. One that is damaged is put aside and told: without it, a
+// stream that a client sends again may be carried out again, and nothing else is lost.
+func Open(folder string, tell func(format string, values ...any)) (*Kept, error) {
 	k := &Kept{path: filepath.Join(folder, "answers"), all: map[string][]Answer{}}
-	lines, err := lists.Read(k.path)
-	if err != nil {
-		return nil, err
-	}
-	for _, words := range lines {
-		if err := k.takeLine(words); err != nil {
-			return nil, fmt.Errorf("%s: %w", k.path, err)
+	err := k.read()
+	if errors.Is(err, errDamaged) || errors.As(err, new(*lists.Lost)) {
+		var aside string
+		if aside, err = putAside(k.path); err == nil {
+			tell("%s is damaged and is %s now; streams with tokens that ended before the last save are carried out again if they are sent again", k.path, aside)
 		}
+		k.all = map[string][]Answer{}
 	}
 	k.isChanged = false
-	return k, nil
+	return k, err
+}
+
+// errDamaged says that a file has a line that is none of this package.
+var errDamaged = errors.New("a line is no line TENANT TOKEN REPLY")
+
+func (k *Kept) read() error {
+	lines, err := lists.Read(k.path)
+	for at := 0; at < len(lines) && err == nil; at++ {
+		err = k.takeLine(lines[at])
+	}
+	return err
+}
+
+// putAside gives a file a name that no other file has.
+func putAside(path string) (aside string, err error) {
+	aside = path + ".damaged"
+	for number := 2; ; number++ {
+		if _, err := os.Lstat(aside); errors.Is(err, os.ErrNotExist) {
+			return aside, os.Rename(path, aside)
+		}
+		aside = fmt.Sprintf("%s.damaged-%d", path, number)
+	}
 }
 
 // dropped stands in a line in the place of a reply that is not kept; no base64 has it.
@@ -107,7 +130,7 @@ const dropped = "-"
 
 func (k *Kept) takeLine(words []string) error {
 	if len(words) < 2 || len(words) > 3 || !ValidToken(words[1]) {
-		return fmt.Errorf("`%.80s` is no line TENANT TOKEN REPLY", strings.Join(words, " "))
+		return errDamaged
 	}
 	it := Answer{Token: words[1]}
 	if len(words) == 3 && words[2] == dropped {
@@ -115,7 +138,7 @@ func (k *Kept) takeLine(words []string) error {
 	} else if len(words) == 3 {
 		reply, err := base64.StdEncoding.DecodeString(words[2])
 		if err != nil {
-			return err
+			return errDamaged
 		}
 		it.Reply = reply
 	}
@@ -201,7 +224,7 @@ func (k *Kept) Save() error {
 	if !k.isChanged {
 		return nil
 	}
-	err := lists.Change(k.path, func([]string) ([]string, error) { return k.lines(), nil })
+	err := lists.Write(k.path, k.lines())
 	k.isChanged = err != nil
 	return err
 }

@@ -7,11 +7,13 @@ import (
 	"path/filepath"
 	"strings"
 	"testing"
+
+	"gitpoold/lists"
 )
 
 func opened(t *testing.T, folder string) *Kept {
 	t.Helper()
-	k, err := Open(folder)
+	k, err := Open(folder, nil)
 	if err != nil {
 		t.Fatal(err)
 	}
@@ -96,14 +98,34 @@ func TestBodies(t *testing.T) {
 	}
 }
 
-func TestADamagedFileIsTold(t *testing.T) {
-	for _, text := range []string{"a\n", "a b c d\n", "a b/c\n", "a b %%\n"} {
-		folder := t.TempDir()
-		if err := os.WriteFile(filepath.Join(folder, "answers"), []byte(text), 0o600); err != nil {
-			t.Fatal(err)
+// TestADamagedFileIsPutAside has lines that are none, bytes that are no text, and a file that was cut.
+func TestADamagedFileIsPutAside(t *testing.T) {
+	cut := lists.Text("a t1 eA==", "a t2 eA==")
+	for _, text := range []string{"a\n", "a b c d\n", "a b/c\n", "a b %%\n", "a t1\n\x1b[2J\x00\xff\xfe \x07", cut[:len(cut)-20]} {
+		folder, said := t.TempDir(), ""
+		path := filepath.Join(folder, "answers")
+		for _, aside := range []string{path + ".damaged", path + ".damaged-2"} {
+			if err := os.WriteFile(path, []byte(text), 0o600); err != nil {
+				t.Fatal(err)
+			}
+			k, err := Open(folder, func(format string, values ...any) { said = fmt.Sprintf(format, values...) })
+			if err != nil || len(k.Of("a")) > 0 {
+				t.Fatalf("%q: %v", text, err)
+			}
+			if kept, err := os.ReadFile(aside); err != nil || string(kept) != text {
+				t.Fatalf("%q is kept as %q: %v", text, kept, err)
+			}
+			if strings.IndexFunc(said, func(it rune) bool { return it < ' ' || it > '~' }) >= 0 || !strings.Contains(said, aside) {
+				t.Fatalf("%q is told", said)
+			}
+			k.Add("a", New("t3", nil))
+			if err := k.Save(); err != nil {
+				t.Fatal(err)
+			}
 		}
-		if _, err := Open(folder); err == nil {
-			t.Errorf("%q is taken", text)
+		again, err := Open(folder, nil)
+		if _, found := again.Find("a", "t3"); err != nil || !found {
+			t.Fatal(err)
 		}
 	}
 }

@@ -19,6 +19,25 @@ func chargeOf(ctx context.Context) func(time.Duration) {
 	return charge
 }
 
+// Cost is what the child took for steps: its time, and by how many bytes its memory has grown. Resident is how much it had then.
+type Cost struct {
+	Took            time.Duration
+	Grown, Resident int64
+}
+
+// measureKey is the key, among the values of a context, of who measures.
+type measureKey struct{}
+
+// Measuring gives a context whose batches are measured: `measure` gets what each of them cost, before its answers are there.
+func Measuring(ctx context.Context, measure func(Cost)) context.Context {
+	return context.WithValue(ctx, measureKey{}, measure)
+}
+
+func measureOf(ctx context.Context) func(Cost) {
+	measure, _ := ctx.Value(measureKey{}).(func(Cost))
+	return measure
+}
+
 // roomKey is the key, among the values of a context, of the room for replies.
 type roomKey struct{}
 
@@ -36,7 +55,7 @@ func roomOf(ctx context.Context) int64 {
 	return math.MaxInt64
 }
 
-// Endless gives a context that never ends, and charges as another one does.
+// Endless gives a context that never ends, and charges as another one does. It measures nothing.
 func Endless(ctx context.Context) context.Context {
 	return context.WithValue(context.Background(), chargeKey{}, chargeOf(ctx))
 }

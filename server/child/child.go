@@ -59,6 +59,9 @@ type Process struct {
 	mutex    sync.Mutex
 	waiting  int
 	answered time.Time
+	// measured is how many of the batches that wait are measured. While there are any, `resident` is the child's memory at the last answer.
+	measured int
+	resident int64
 }
 
 // Batch is a run of steps that were sent together.
@@ -67,6 +70,7 @@ type Batch struct {
 	count   int
 	class   Class
 	charge  func(time.Duration)
+	measure func(Cost)
 	room    int64
 	answers []frames.Answer
 	done    chan struct{}
@@ -221,7 +225,8 @@ func (p *Process) Send(ctx context.Context, class Class, steps ...frames.Step) (
 	for _, step := range steps {
 		size += step.Size()
 	}
-	b := &Batch{frames: make([]byte, 0, size), count: len(steps), class: class, charge: chargeOf(ctx), room: roomOf(ctx), done: make(chan struct{})}
+	b := &Batch{frames: make([]byte, 0, size), count: len(steps), class: class, charge: chargeOf(ctx), measure: measureOf(ctx),
+		room: roomOf(ctx), done: make(chan struct{})}
 	for _, step := range steps {
 		b.frames = step.AppendTo(b.frames)
 	}
@@ -230,41 +235,57 @@ func (p *Process) Send(ctx context.Context, class Class, steps ...frames.Step) (
 			return nil, err
 		}
 	}
-	p.wait()
+	p.wait(b)
 	if err := p.put(ctx, b); err != nil {
 		p.leave(class)
-		p.forgo()
+		p.forgo(b)
 		return nil, err
 	}
 	return b, nil
 }
 
 // forgo counts a batch no more that was not sent. The child has answered nothing meanwhile.
-func (p *Process) forgo() {
+func (p *Process) forgo(b *Batch) {
 	p.mutex.Lock()
 	defer p.mutex.Unlock()
 	p.waiting--
+	if b.measure != nil {
+		p.measured--
+	}
 }
 
-// wait counts a batch that waits for its answers, for Stalled.
-func (p *Process) wait() {
+// wait counts a batch that waits for its answers, for Stalled and for what is measured.
+func (p *Process) wait(b *Batch) {
 	p.mutex.Lock()
 	defer p.mutex.Unlock()
 	if p.waiting == 0 {
 		p.answered = time.Now()
 	}
 	p.waiting++
+	if b.measure == nil {
+		return
+	}
+	if p.measured++; p.measured == 1 {
+		p.resident = p.Resident()
+	}
 }
 
-// unwait counts it no more, and gives the time since the batch before was answered, or since this one came if none waited before it.
-func (p *Process) unwait() time.Duration {
+// unwait counts it no more, and gives what the child took since the batch before was answered, or since this one came if none waited before it.
+func (p *Process) unwait(b *Batch) (cost Cost) {
 	p.mutex.Lock()
 	defer p.mutex.Unlock()
+	if p.measured > 0 {
+		cost.Resident = p.Resident()
+		cost.Grown, p.resident = cost.Resident-p.resident, cost.Resident
+	}
+	if b.measure != nil {
+		p.measured--
+	}
 	now := time.Now()
-	took := now.Sub(p.answered)
+	cost.Took = now.Sub(p.answered)
 	p.waiting--
 	p.answered = now
-	return took
+	return cost
 }
 
 // Stalled is for how long the child has worked without an answer.
@@ -318,8 +339,12 @@ func (b *Batch) Wait(ctx context.Context) ([]frames.Answer, error) {
 func (p *Process) finish(b *Batch, err error) {
 	b.err = err
 	p.leave(b.class)
-	if took := p.unwait(); b.charge != nil && err == nil {
-		b.charge(took)
+	cost := p.unwait(b)
+	if b.charge != nil && err == nil {
+		b.charge(cost.Took)
+	}
+	if b.measure != nil && err == nil {
+		b.measure(cost)
 	}
 	close(b.done)
 }

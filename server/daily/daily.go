@@ -16,6 +16,7 @@ import (
 	"time"
 
 	"gitpoold/access"
+	"gitpoold/regular"
 )
 
 // Refusals, as users see them.
@@ -62,12 +63,16 @@ func (l *Ledger) today() string { return l.clock().UTC().Format("2006-01-02") }
 // read reads the file: the day, and a line `USER BYTES SECONDS` for each user.
 func (l *Ledger) read() {
 	l.day = l.today()
-	text, err := os.ReadFile(l.path)
+	text, err := regular.Read(l.path)
 	if errors.Is(err, os.ErrNotExist) {
 		return
 	}
 	head, rest, _ := strings.Cut(string(text), "\n")
-	if err == nil && head != l.day {
+	if err != nil {
+		l.tell("%v; what users took today counts from now on", err)
+		return
+	}
+	if head != l.day {
 		return
 	}
 	found := map[string]Amount{}

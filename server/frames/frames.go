@@ -152,13 +152,16 @@ func readSized(from *bufio.Reader, width int, longest uint32) ([]byte, error) {
 	return readBytes(from, uint64(size))
 }
 
-// readBytes reads so many bytes; memory is taken a megabyte at a time until half of them are there.
+// readBytes reads so many bytes. Memory is taken for a megabyte, then for twice as many bytes as are there.
 func readBytes(from *bufio.Reader, size uint64) ([]byte, error) {
-	const block = 1 << 20
+	const first = 1 << 20
 	var found []byte
 	for have := uint64(0); have < size; have = uint64(len(found)) {
-		next := have + block
-		if have >= size/2 || next > size {
+		next := 2 * have
+		if next == 0 {
+			next = first
+		}
+		if next > size {
 			next = size
 		}
 		grown := make([]byte, next)

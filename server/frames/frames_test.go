@@ -6,6 +6,7 @@ import (
 	"errors"
 	"io"
 	"reflect"
+	"runtime"
 	"strings"
 	"testing"
 	"testing/iotest"
@@ -101,4 +102,25 @@ func FuzzReadStep(f *testing.F) {
 		}
 		_, _ = ReadAnswer(bufio.NewReader(bytes.NewReader(text)))
 	})
+}
+
+// zeroes are bytes without an end.
+type zeroes struct{}
+
+func (zeroes) Read(into []byte) (int, error) { return len(into), nil }
+
+// TestALargeAnswerIsReadInFewSteps has an answer of 64 megabytes: what is taken of the memory for it, one after another, is bounded.
+func TestALargeAnswerIsReadInFewSteps(t *testing.T) {
+	const size = 64 << 20
+	head := Answer{Reply: make([]byte, size)}.head()
+	var before, after runtime.MemStats
+	runtime.ReadMemStats(&before)
+	answer, err := ReadAnswer(bufio.NewReader(io.MultiReader(bytes.NewReader(head), zeroes{})))
+	runtime.ReadMemStats(&after)
+	if err != nil || len(answer.Reply) != size {
+		t.Fatal(len(answer.Reply), err)
+	}
+	if taken := after.TotalAlloc - before.TotalAlloc; taken > 5*size/2 {
+		t.Fatalf("%d bytes were taken", taken)
+	}
 }

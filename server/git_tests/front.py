@@ -9,6 +9,7 @@ import os
 import re
 import socket
 import socketserver
+import subprocess
 import sys
 import threading
 from typing import List, Optional, Tuple
@@ -19,7 +20,7 @@ sys.dont_write_bytecode = True
 from mirrors import PASSWORD, Mirror, NotKept, git_folder, note, ports  # noqa: E402
 
 ROOT = sys.argv[1]
-SERVICE = re.compile(r"^/(?P<way>(?:auth/|auth-push/|auth-fetch/|half-auth-complete/)?)smart(?P<kind>_[a-z0-9_]*)?/(?P<name>.+?)"
+SERVICE = re.compile(r"^/(?P<way>(?:auth/|auth-push/|auth-fetch/|half-auth-complete/)?)(?:smart(?P<kind>_[a-z0-9_]*)?|(?P<perl>one_time_perl))/(?P<name>.+?)"
                      r"/(?P<what>info/refs|git-upload-pack|git-receive-pack)(?P<query>\?.*)?$")
 REDIRECTS: List[Tuple[str, str, int]] = [
     (r"^/smart-redir-perm/(.*)$", r"/smart/\1", 301), (r"^/smart-redir-temp/(.*)$", r"/smart/\1", 302),
@@ -105,7 +106,13 @@ class Front(socketserver.StreamRequestHandler):
                 self.say(request, 500, [])
                 return
         dressed(request, found)
-        answer = self.asked(request, f"/{mirror.tenant}.git/{what}{found['query'] or ''}", what == "git-receive-pack")
+        target = f"/{mirror.tenant}.git/{what}{found['query'] or ''}"
+        edit = os.path.join(ROOT, "one-time-perl")
+        if found["perl"] and os.path.exists(edit):
+            self.wfile.write(edited(self.asked(request, target, True), edit))
+            note(what, path, "served")
+            return
+        answer = self.asked(request, target, what == "git-receive-pack")
         result = "served"
         if what == "git-receive-pack":
             with Mirror(at) as mirror:
@@ -147,6 +154,32 @@ class Front(socketserver.StreamRequestHandler):
                 server.sendall(part)
         except OSError:
             pass
+
+
+def edited(answer: bytes, edit: str) -> bytes:
+    """The answer as a command of perl edits it, which goes once it has changed something: apply-one-time-perl.sh of git's tests."""
+    head, _, body = answer.partition(b"\r\n\r\n")
+    if b"chunked" in head.lower():
+        body = unchunked(body)
+    with open(edit, encoding="latin-1") as file:
+        command = file.read()
+    changed = subprocess.run(["perl", "-pe", command], input=body, cwd=ROOT, stdout=subprocess.PIPE, env={**os.environ, "LC_ALL": "C"}, check=True)
+    if changed.stdout != body:
+        os.remove(edit)
+    kept = [line for line in head.split(b"\r\n") if not line.lower().startswith((b"content-length:", b"transfer-encoding:"))]
+    return b"\r\n".join([*kept, b"Content-Length: %d" % len(changed.stdout), b"", changed.stdout])
+
+
+def unchunked(body: bytes) -> bytes:
+    """A body without the sizes of its chunks: RFC 9112, section 7.1."""
+    parts: List[bytes] = []
+    while True:
+        size, _, body = body.partition(b"\r\n")
+        count = int(size.split(b";")[0], 16)
+        if count == 0:
+            return b"".join(parts)
+        parts.append(body[:count])
+        body = body[count + 2 :]
 
 
 def dressed(request: Request, found: "re.Match[str]") -> None:

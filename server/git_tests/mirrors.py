@@ -105,12 +105,20 @@ class Mirror:
         before = self._file.read()
         if before == now:
             return
-        done = own_git(self.at, "-c", "push.followTags=false", "-c", "push.default=matching", "push", "--no-verify", "--mirror", self.url)
-        if done.returncode:
-            raise NotKept(" / ".join(it for it in done.stderr.decode(errors="replace").splitlines() if "error" in it or "reject" in it)[:300])
+        # Its branch would stay.
+        self._set_head("ref: refs/heads/of-no-mirror")
+        # (git fails where neither side has a ref)
+        if len(now.splitlines()) > 1 or len(before.splitlines()) > 1:
+            self._push()
         self._set_head(now.splitlines()[0])
         self._set_one_level(one_level(before), one_level(now))
         self._remember(now)
+
+    def _push(self) -> None:
+        words = ["-c", "push.followTags=false", "-c", "push.default=matching", "push", "--no-verify", "--mirror", self.url]
+        done = own_git(self.at, *words)
+        if done.returncode:
+            raise NotKept(" / ".join(it for it in done.stderr.decode(errors="replace").splitlines() if "error" in it or "reject" in it)[:300])
 
     def _set_head(self, head: str) -> None:
         if head.startswith("ref: "):
@@ -142,7 +150,10 @@ class Mirror:
             own_git(self.at, "update-ref", "-d", ref)
         if done.returncode:
             raise NotKept("the repository cannot take what was pushed: " + done.stderr.decode(errors="replace")[:200])
-        self._remember(self.state())
+        now = self.state()
+        # The HEAD of a tenant moves to the first branch that comes, and that of the repository stays.
+        self._set_head(now.splitlines()[0])
+        self._remember(now)
 
 
 def is_one_level(ref: str) -> bool:

@@ -16,6 +16,7 @@ import (
 	"testing"
 	"time"
 
+	"gitpoold/lists"
 	"gitpoold/metrics"
 )
 
@@ -386,7 +387,7 @@ func TestHooksAreChangedWhileTheServerRuns(t *testing.T) {
 			t.Error(words)
 		}
 	}
-	if Remove(h.folder, "acme/*", hook) == nil || contents(h.folder+"/hooks") != "# none\n" {
+	if Remove(h.folder, "acme/*", hook) == nil || contents(h.folder+"/hooks") != lists.Text("# none") {
 		t.Error(contents(h.folder + "/hooks"))
 	}
 }

@@ -33,6 +33,9 @@ func resultOf(err error) string {
 	return "failed"
 }
 
+// Unread says why the list cannot be read, so that what was read before holds. It is nil where it can.
+func (h *Hooks) Unread() error { return h.lines.Unread() }
+
 func read(path string) (all []line, err error) {
 	lines, err := lists.Read(path)
 	for _, words := range lines {

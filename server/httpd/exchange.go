@@ -77,20 +77,23 @@ func (e *exchange) use(t tenants.Tenant, in io.Reader, out *pktline.Writer) serv
 
 // advertise answers info/refs.
 func (e *exchange) advertise(ctx context.Context, t tenants.Tenant) {
-	var text bytes.Buffer
-	out := pktline.NewWriter(&text)
+	e.head("advertisement")
+	out := pktline.NewWriter(e.w)
 	use := e.use(t, nil, out)
 	if e.name == services.ReceivePack || use.Version != 2 {
 		out.Line("# service=%s", e.name)
 		out.FlushPacket()
 	}
-	if err := use.Advertise(ctx); err != nil {
-		e.record.Err = err
-		e.fail(http.StatusInternalServerError, uploadpack.Sentence(err))
-		return
+	e.record.Err = use.Advertise(ctx)
+	var refusal uploadpack.Refused
+	switch {
+	case e.record.Err == nil || e.w.bytes > 0:
+	case errors.As(e.record.Err, &refusal):
+		e.w.Header().Set("Retry-After", "1")
+		e.fail(http.StatusTooManyRequests, refusal.Why)
+	default:
+		e.fail(http.StatusInternalServerError, uploadpack.Sentence(e.record.Err))
 	}
-	e.head("advertisement")
-	_, e.record.Err = e.w.Write(text.Bytes())
 }
 
 // answer answers a POST to a service.

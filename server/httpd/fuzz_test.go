@@ -33,6 +33,7 @@ func FuzzBody(f *testing.F) {
 	if err != nil {
 		f.Fatal(err)
 	}
+	l.Fresh()
 	whole := zipped([]byte("0014command=ls-refs\n0000"))
 	f.Add("", []byte("0000"))
 	f.Add("gzip", whole)

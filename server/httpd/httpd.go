@@ -39,7 +39,7 @@ func Serve(ctx context.Context, listener net.Listener, s *site.Site) error {
 		ConnContext: func(ctx context.Context, c net.Conn) context.Context { return context.WithValue(ctx, connection{}, c) },
 	}
 	ended := make(chan error, 1)
-	go func() { ended <- h.Serve(listener) }()
+	go func() { ended <- h.Serve(seenHeads{listener}) }()
 	select {
 	case err := <-ended:
 		return err
@@ -86,6 +86,10 @@ func (s *server) ServeHTTP(w http.ResponseWriter, r *http.Request) {
 	defer timer.Stop()
 	defer e.finish()
 	switch {
+	case !e.frame():
+		e.hasFinished = true
+		e.w.Header().Set("Connection", "close")
+		e.fail(http.StatusBadRequest, "the head of this request does not say in one way how long its body is")
 	case r.URL.Path == "/metrics" && isOwn(r):
 		w.Header().Set("Content-Type", "text/plain; version=0.0.4")
 		s.Metrics.Text(e.w)
@@ -130,6 +134,10 @@ func address(r *http.Request) string {
 // service finds what a path asks for.
 func (e *exchange) service() {
 	found := servicePath.FindStringSubmatch(e.r.URL.Path)
+	if lfs := lfsPath.FindStringSubmatch(e.r.URL.Path); found == nil && lfs != nil {
+		e.refuseLFS(lfs[1])
+		return
+	}
 	if found == nil && dumbPath.MatchString(e.r.URL.Path) {
 		e.fail(http.StatusForbidden, "this server speaks Git's smart protocol alone; please upgrade git")
 		return

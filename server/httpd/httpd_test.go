@@ -20,10 +20,13 @@ import (
 )
 
 // served gives the address of a server whose requests may take a second in all.
-func served(t *testing.T) string {
+func served(t *testing.T) string { return servedFor(t, "1s") }
+
+// servedFor gives the address of a server whose requests may take a time.
+func servedFor(t *testing.T, request string) string {
 	t.Helper()
 	folder := t.TempDir()
-	if err := limits.Set(filepath.Join(folder, "limits"), "request", "1s"); err != nil {
+	if err := limits.Set(filepath.Join(folder, "limits"), "request", request); err != nil {
 		t.Fatal(err)
 	}
 	l, err := limits.Load(folder, t.Logf)

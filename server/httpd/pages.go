@@ -159,7 +159,7 @@ func (e *exchange) cloneURLs(user, tenant string) (overHTTP, overSSH string) {
 		who = user + "@"
 	}
 	scheme := "http"
-	if e.r.TLS != nil || strings.EqualFold(e.r.Header.Get("X-Forwarded-Proto"), "https") {
+	if isTLS(e.r) || strings.EqualFold(e.r.Header.Get("X-Forwarded-Proto"), "https") {
 		scheme = "https"
 	}
 	overHTTP = fmt.Sprintf("%s://%s%s/%s.git", scheme, who, host, tenant)

@@ -13,6 +13,7 @@ import (
 // Files is the journal of a pool as a folder of segments, `00000001` and so on: each is a file.
 type Files struct {
 	folder   string
+	begun    string
 	tell     func(format string, values ...any)
 	mutex    sync.Mutex
 	changed  *sync.Cond
@@ -29,6 +30,9 @@ type Files struct {
 // Append writes steps behind one another, and gives the number of the last one. They last from Sync on. On ErrFull or ErrBroken
 // nothing is written.
 func (j *Files) Append(steps ...frames.Step) (uint64, error) {
+	if err := readable(steps...); err != nil {
+		return 0, err
+	}
 	j.mutex.Lock()
 	defer j.mutex.Unlock()
 	if j.broken != nil {

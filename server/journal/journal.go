@@ -30,13 +30,15 @@ var (
 	ErrAway = errors.New("the server's journal does not answer; nothing of this push was kept, and reading goes on")
 	// ErrUnsure says that the Redis of the journal got the records and did not say whether it has them.
 	ErrUnsure = errors.New("the server's journal did not answer while it kept this push; fetch to see whether it is there")
+	// ErrTooLarge says that a record is larger than those that Records reads. Nothing is written, and the journal takes the next one.
+	ErrTooLarge = errors.New("a limit is passed: a step is larger than a record of the journal may be; nothing of this push was kept (fault 25)")
 )
 
 // Journal is the journal of a pool. Append and Sync may be called by many goroutines at once; Begin, Drop, Records and Resume by one that
 // lets no other in meanwhile. Others may append while a Reader reads.
 type Journal interface {
 	// Append writes steps behind one another, and gives the number of the last one. They last from Sync on. On an error nothing is
-	// written.
+	// written. What Records would not read back is refused by ErrTooLarge.
 	Append(steps ...frames.Step) (uint64, error)
 	// Sync waits until the record of a number, and all before it, last. One sync may serve many callers.
 	Sync(number uint64) error

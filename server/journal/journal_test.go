@@ -509,3 +509,160 @@ func FuzzSegment(f *testing.F) {
 		}
 	})
 }
+
+// sized is a step whose frame has so many bytes, behind a name of 9.
+func sized(bytes int) frames.Step {
+	step := frames.Step{Kind: frames.Feed, Tenant: "acme/site"}
+	step.Body = make([]byte, bytes-step.Size())
+	return step
+}
+
+// takesWhatItReads asks of a journal without steps that it takes what can be read back, and refuses what cannot, with all that comes together with
+// that.
+func takesWhatItReads(t *testing.T, j Journal) {
+	t.Helper()
+	longest := frames.Step{Kind: frames.Feed, Tenant: strings.Repeat("n", 65535), Body: make([]byte, frames.LongestBody)}
+	for _, it := range []frames.Step{longest, sized(largestFrame)} {
+		if _, err := j.Append(it); err != nil {
+			t.Fatalf("a record of %d bytes is refused: %v", it.Size(), err)
+		}
+	}
+	named := frames.Step{Kind: frames.Open, Tenant: strings.Repeat("n", 65536)}
+	for _, it := range []frames.Step{sized(largestFrame + 1), named} {
+		if _, err := j.Append(step(1), it, step(2)); !errors.Is(err, ErrTooLarge) {
+			t.Fatalf("a record of %d bytes with a name of %d: %v", it.Size(), len(it.Tenant), err)
+		}
+	}
+	number, err := j.Append(sized(7 + len("acme/site")))
+	if err != nil || number != j.Number() {
+		t.Fatalf("the journal takes nothing after it has refused a record: %v", err)
+	}
+	if err := j.Sync(number); err != nil {
+		t.Fatal(err)
+	}
+}
+
+// hasLargest asks that a journal has what takesWhatItReads has appended.
+func hasLargest(t *testing.T, j Journal, pool Digest) {
+	t.Helper()
+	var sizes []int
+	err := j.Records(pool, func(r Record) error {
+		sizes = append(sizes, r.Step.Size())
+		return nil
+	})
+	if err != nil || fmt.Sprint(sizes) != fmt.Sprint([]int{largestFrame, largestFrame, 16}) {
+		t.Fatalf("records of %v bytes: %v", sizes, err)
+	}
+}
+
+func TestEveryRecordCanBeReadBack(t *testing.T) {
+	folder := t.TempDir()
+	j := opened(t, folder, pools[0])
+	takesWhatItReads(t, j)
+	hasLargest(t, j, pools[0])
+	hasLargest(t, opened(t, folder, pools[0]), pools[0])
+}
+
+// TestASegmentThatCouldNotBeReadIsNotBegun has more open streams than the first record of a segment may name, and as many.
+func TestASegmentThatCouldNotBeReadIsNotBegun(t *testing.T) {
+	folder := t.TempDir()
+	j := opened(t, folder, pools[0])
+	filled(t, j, 0, 3)
+	open := make([]uint64, mostOpen+1)
+	for at := range open {
+		open[at] = uint64(2 + at)
+	}
+	if err := j.Begin(pools[1], open); !errors.Is(err, ErrTooLarge) {
+		t.Fatal(err)
+	}
+	if err := j.Renew(pools[1], []frames.Step{sized(largestFrame + 1)}); !errors.Is(err, ErrTooLarge) {
+		t.Fatal(err)
+	}
+	hasSteps(t, opened(t, folder, pools[0]), 0, 3)
+	if err := j.Begin(pools[1], open[:mostOpen]); err != nil {
+		t.Fatal(err)
+	}
+	hasStepsAfter(t, opened(t, folder, pools[0]), pools[0], 0, 3)
+}
+
+// begun opens a journal that keeps the number of its newest segment.
+func begun(t testing.TB, folder string, pool Digest) (*Files, error) {
+	t.Helper()
+	j, err := OpenBegun(folder, folder+"-begun", pool, quiet)
+	if err == nil {
+		t.Cleanup(func() { j.Close() })
+	}
+	return j, err
+}
+
+// isMissing asks that a journal is not opened because it lacks a segment, and that nothing is changed.
+func isMissing(t testing.TB, folder string, pool Digest, segment uint64) {
+	t.Helper()
+	before, _ := os.ReadDir(folder)
+	mark, _ := os.ReadFile(folder + "-begun")
+	_, err := begun(t, folder, pool)
+	var damaged *Damaged
+	if !errors.As(err, &damaged) || damaged.Path != path(folder, segment) {
+		t.Fatalf("the journal is opened without segment %d: %v", segment, err)
+	}
+	after, _ := os.ReadDir(folder)
+	if again, _ := os.ReadFile(folder + "-begun"); len(after) != len(before) || string(again) != string(mark) {
+		t.Fatal("something was changed")
+	}
+}
+
+func mustDo(t testing.TB, err error) {
+	t.Helper()
+	if err != nil {
+		t.Fatal(err)
+	}
+}
+
+func TestALostJournalIsNoNewOne(t *testing.T) {
+	folder := filepath.Join(t.TempDir(), "journal")
+	mustDo(t, os.Mkdir(folder, 0o700))
+	j, err := begun(t, folder, pools[0])
+	mustDo(t, err)
+	filled(t, j, 0, 10)
+	mustDo(t, j.Begin(pools[1], nil))
+	filled(t, j, 10, 15)
+	// The newest one is lost, and the pool file is that of the one before: its save ended before the file was in its place.
+	mustDo(t, os.Remove(path(folder, 2)))
+	isMissing(t, folder, pools[0], 2)
+	mustDo(t, os.Remove(path(folder, 1)))
+	isMissing(t, folder, pools[1], 2)
+	mustDo(t, os.WriteFile(folder+"-begun", nil, 0o600))
+	isMissing(t, folder, pools[1], 1)
+	mustDo(t, os.Remove(folder+"-begun"))
+	j, err = begun(t, folder, pools[1])
+	mustDo(t, err)
+	hasStepsAfter(t, j, pools[1], 0, 0)
+}
+
+// TestAJournalOfAnEarlierVersionIsTaken has segments and no file that names the newest one, or one that a crash has emptied, or that is behind.
+func TestAJournalOfAnEarlierVersionIsTaken(t *testing.T) {
+	folder := filepath.Join(t.TempDir(), "journal")
+	mustDo(t, os.Mkdir(folder, 0o700))
+	j := opened(t, folder, pools[0])
+	filled(t, j, 0, 10)
+	for _, mark := range []string{"", "1\n"} {
+		j, err := begun(t, folder, pools[0])
+		mustDo(t, err)
+		hasSteps(t, j, 0, 10)
+		if text, err := os.ReadFile(folder + "-begun"); err != nil || string(text) != "1\n" {
+			t.Fatalf("%q %v", text, err)
+		}
+		mustDo(t, os.WriteFile(folder+"-begun", []byte(mark), 0o600))
+	}
+	j, err := begun(t, folder, pools[0])
+	mustDo(t, err)
+	mustDo(t, j.Begin(pools[1], nil))
+	mustDo(t, j.Drop())
+	if text, err := os.ReadFile(folder + "-begun"); err != nil || string(text) != "2\n" {
+		t.Fatalf("%q %v", text, err)
+	}
+	mustDo(t, os.WriteFile(folder+"-begun", []byte("1\n"), 0o600))
+	j, err = begun(t, folder, pools[1])
+	mustDo(t, err)
+	hasStepsAfter(t, j, pools[1], 10, 10)
+}

@@ -42,7 +42,9 @@ const (
 	headBytes  = 16
 	chainBytes = sha256.Size
 	// largestFrame is that of a Feed with the longest name and the largest body.
-	largestFrame = 7 + 65535 + frames.LongestBody
+	largestFrame = frameHead + longestName + frames.LongestBody
+	frameHead    = 7
+	longestName  = 65535
 )
 
 var castagnoli = crc32.MakeTable(crc32.Castagnoli)
@@ -61,6 +63,16 @@ type mark struct {
 type Record struct {
 	Number uint64
 	Step   frames.Step
+}
+
+// readable is ErrTooLarge where a start could not read the records of these steps back.
+func readable(steps ...frames.Step) error {
+	for _, step := range steps {
+		if len(step.Tenant) > longestName || step.Size() > largestFrame {
+			return ErrTooLarge
+		}
+	}
+	return nil
 }
 
 // appendRecord appends a record to bytes, and moves the mark behind it.

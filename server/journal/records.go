@@ -7,6 +7,7 @@ import (
 	"os"
 
 	"gitpoold/frames"
+	"gitpoold/regular"
 )
 
 // Records calls `use` with each record that a pool file has not, in order: those of the streams that were open when it was saved, from
@@ -93,7 +94,7 @@ func openOnly(numbers []uint64, use func(Record) error) func(Record) error {
 func (r *filesReader) readTo(it segment, use func(Record) error) (err error) {
 	place := path(r.journal.folder, it.number)
 	if r.file == nil {
-		if r.file, err = os.Open(place); err != nil {
+		if r.file, err = regular.Open(place, os.O_RDONLY); err != nil {
 			return err
 		}
 	}

@@ -244,6 +244,9 @@ func takenOver(at mark) (queued, error) {
 
 // Append queues steps behind one another, and gives the number of the last one.
 func (r *Redis) Append(steps ...frames.Step) (uint64, error) {
+	if err := readable(steps...); err != nil {
+		return 0, err
+	}
 	r.mutex.Lock()
 	defer r.mutex.Unlock()
 	for r.broken == nil && r.waiting > mostQueued {
@@ -304,6 +307,10 @@ func (r *Redis) Begin(pool Digest, open []uint64) error {
 	}
 	made := &segment{number: r.segments[len(r.segments)-1].number + 1, pool: pool, open: open, before: r.appended.chain,
 		first: r.appended.number + 1}
+	if err := made.readable(); err != nil {
+		r.mutex.Unlock()
+		return err
+	}
 	r.appended.size = 0
 	r.enqueue(frames.Step{Kind: saved, Body: made.body()}, made)
 	number := r.appended.number

@@ -5,6 +5,8 @@ import (
 	"errors"
 	"fmt"
 	"os"
+
+	"gitpoold/regular"
 )
 
 // place is how far a server has come in a log: the number of a record, and the chain there.
@@ -21,7 +23,7 @@ const placeForm = "%020d %064x\n"
 
 // readPlace reads the place of a file, which need not be there.
 func readPlace(path string) (found place, has bool, err error) {
-	text, err := os.ReadFile(path)
+	text, err := regular.Read(path)
 	if errors.Is(err, os.ErrNotExist) || err == nil && len(text) == 0 {
 		return found, false, nil
 	}

@@ -905,3 +905,16 @@ func TestSentinel(t *testing.T) {
 		t.Fatalf("the replica has %d records: %v", count, err)
 	}
 }
+
+func TestEveryRecordInRedisCanBeReadBack(t *testing.T) {
+	o := options(t, redistest.Start(t))
+	j := created(t, o)
+	takesWhatItReads(t, j)
+	hasLargest(t, j, pools[0])
+	open := make([]uint64, mostOpen+1)
+	if err := j.Begin(pools[1], open); !errors.Is(err, ErrTooLarge) {
+		t.Fatal(err)
+	}
+	j.Close()
+	hasLargest(t, openedRedis(t, o, pools[0]), pools[0])
+}

@@ -28,6 +28,9 @@ func (j *Files) Renew(pool Digest, steps []frames.Step) error {
 func (j *Files) beginWith(made segment, steps ...frames.Step) error {
 	j.mutex.Lock()
 	defer j.mutex.Unlock()
+	if err := made.readable(steps...); err != nil {
+		return err
+	}
 	if err := j.settle(); err != nil {
 		return err
 	}
@@ -44,6 +47,9 @@ func (j *Files) beginWith(made segment, steps ...frames.Step) error {
 	j.current().size = j.synced.size
 	j.segments = append(j.segments, made)
 	j.file, j.appended, j.synced, j.broken = file, made.end, made.end, nil
+	if err := j.noteBegun(); err != nil {
+		j.tell("%s names an earlier segment: %v", j.begun, err)
+	}
 	return nil
 }
 

@@ -14,6 +14,7 @@ import (
 
 	"gitpoold/faultpoint"
 	"gitpoold/frames"
+	"gitpoold/regular"
 )
 
 // title is what each segment begins with.
@@ -25,8 +26,7 @@ const (
 	// openBytes is what follows there for each stream that was open: the number of the record of its Open.
 	openBytes = 8
 	// mostOpen is more streams than a server ever has at once.
-	mostOpen  = 1 << 20
-	frameHead = 7
+	mostOpen = 1 << 20
 )
 
 // segment is one file of a journal.
@@ -82,6 +82,14 @@ func (it *segment) begin(before mark) []byte {
 	bytes := appendRecord([]byte(title), &it.end, frames.Step{Kind: saved, Body: it.body()})
 	it.start = it.end.size
 	return bytes
+}
+
+// readable is ErrTooLarge where a start could not read a segment back that begins with these steps.
+func (it *segment) readable(steps ...frames.Step) error {
+	if len(it.open) > mostOpen {
+		return ErrTooLarge
+	}
+	return readable(steps...)
 }
 
 // body is the body of a segment's first record.
@@ -176,7 +184,7 @@ func (j *Files) start(pool Digest) (err error) {
 // goOn takes the journal up behind its last record, and removes the segments that are not needed.
 func (j *Files) goOn() (err error) {
 	tail := j.current()
-	j.file, err = os.OpenFile(path(j.folder, tail.number), os.O_RDWR, 0)
+	j.file, err = regular.Open(path(j.folder, tail.number), os.O_RDWR)
 	if err != nil {
 		return err
 	}
@@ -236,7 +244,7 @@ func readAll(folder string, numbers []uint64) (all []segment, err error) {
 
 // readSegment reads one segment through. Only the last may end in a part of a record.
 func readSegment(place string, isLast bool) (segment, error) {
-	file, err := os.Open(place)
+	file, err := regular.Open(place, os.O_RDONLY)
 	if err != nil {
 		return segment{}, err
 	}

@@ -9,13 +9,27 @@ import (
 // ErrFetches is why a fetch is refused that would hold too much.
 const ErrFetches = Passed("this user's fetches hold as many bytes as `fetch-bytes` says; try again when they have ended")
 
-// Fetch counts what one fetch holds, for its user: lists of objects and commits as `fetch-bytes` says, and large entries of packs as `answer-bytes`
-// says.
-type Fetch struct{ *Held }
+// Fetch counts what one fetch holds, for its user: lists of objects and commits as `fetch-bytes` says, and lists of refs and large entries of packs as
+// `answer-bytes` says.
+type Fetch struct {
+	*Held
+	lists *refLists
+}
 
 // Fetch counts for a fetch that begins. The user "" is a visitor, who is counted by its address.
 func (l *Limits) Fetch(user, address string) Fetch {
-	return Fetch{&Held{limits: l, who: whoIs(user, address), of: l.fetches, most: func(v Values) int64 { return v.FetchBytes }, refusal: ErrFetches}}
+	held := &Held{limits: l, who: whoIs(user, address), of: l.fetches, most: func(v Values) int64 { return v.FetchBytes }, refusal: ErrFetches}
+	return Fetch{held, &refLists{limits: l, who: whoTakes(user, address)}}
+}
+
+// Share counts bytes of a list of refs, once for all requests of the user that hold it, or is ErrAnswers where too many bytes wait until the user
+// takes them.
+func (f Fetch) Share(list any, bytes int64) error { return f.lists.share(list, bytes) }
+
+// Free counts no more what the fetch holds.
+func (f Fetch) Free() {
+	f.Held.Free()
+	f.lists.free()
 }
 
 // room is what the entries may have that one user's fetches hold. It is dropped when nobody uses it.

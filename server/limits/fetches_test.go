@@ -84,3 +84,32 @@ func TestWhatFetchesHold(t *testing.T) {
 		t.Fatal(l.fetches)
 	}
 }
+
+// TestAListOfRefsCountsOnce has requests of two users and a visitor that hold lists of refs, some of them the same.
+func TestAListOfRefsCountsOnce(t *testing.T) {
+	l, _ := loaded(t, "answer-bytes 50\n")
+	main, other := new(int), new(int)
+	first, second := l.Fetch("alice", "10.0.0.1:1"), l.Fetch("alice", "10.0.0.2:1")
+	if first.Share(main, 30) != nil || second.Share(main, 30) != nil || second.Share(other, 21) != ErrAnswers || second.Share(other, 20) != nil {
+		t.Fatal("what the lists of one user count")
+	}
+	if l.Fetch("bob", "10.0.0.1:1").Share(main, 50) != nil || l.Fetch("", "10.0.0.1:1").Share(main, 51) != ErrAnswers {
+		t.Fatal("what the lists of others count")
+	}
+	if _, err := l.Wait("alice", 1); err != ErrAnswers {
+		t.Fatal("lists do not count among the answers that wait", err)
+	}
+	first.Free()
+	if second.Share(new(int), 1) != ErrAnswers {
+		t.Fatal("a list counts no more that another request holds")
+	}
+	second.Free()
+	second.Free()
+	if first.Share(other, 50) != nil || len(l.lists) != 2 {
+		t.Fatal("lists count that nobody holds", l.lists, l.answers)
+	}
+	first.Free()
+	if len(l.lists) != 1 || l.answers["alice"] != 0 {
+		t.Fatal(l.lists, l.answers)
+	}
+}

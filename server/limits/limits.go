@@ -22,8 +22,9 @@ type Limits struct {
 	values *lists.Followed[Values]
 	mutex  sync.Mutex
 	counts map[string]int
-	// answers has the bytes of the answers that wait until a user takes them.
+	// answers has the bytes of the answers that wait until a user takes them, and lists those of its lists of refs among them.
 	answers map[string]int64
+	lists   map[userList]*sharedList
 	// lines and spools have the bytes of lines that the requests of a user hold, and of the temporary files of its pushes.
 	lines, spools map[string]int64
 	// fetches has the bytes of the lists that the fetches of a user hold, and rooms what their large entries may have.
@@ -38,12 +39,19 @@ func Load(folder string, tell func(format string, values ...any)) (*Limits, erro
 	if err != nil {
 		return nil, err
 	}
-	return &Limits{values: followed, counts: map[string]int{}, answers: map[string]int64{}, lines: map[string]int64{}, spools: map[string]int64{},
+	return &Limits{values: followed, counts: map[string]int{}, answers: map[string]int64{}, lists: map[userList]*sharedList{}, lines: map[string]int64{}, spools: map[string]int64{},
 		fetches: map[string]int64{}, rooms: map[string]*room{}}, nil
 }
 
-// Get gives the limits as they are now.
-func (l *Limits) Get() Values { return l.values.Get() }
+// Get gives the limits as they were when a connection or a request began last. It waits for nothing, so that no Read or Write of a connection asks
+// the file system.
+func (l *Limits) Get() Values { return l.values.Last() }
+
+// Fresh gives the limits as they are now.
+func (l *Limits) Fresh() Values { return l.values.Get() }
+
+// Unread says why the list cannot be read, so that what was read before holds. It is nil where it can.
+func (l *Limits) Unread() error { return l.values.Unread() }
 
 // Quota gives the most bytes that a tenant may have, 0 for no limit.
 func (l *Limits) Quota(tenant string) int64 {
@@ -56,7 +64,7 @@ func (l *Limits) Quota(tenant string) int64 {
 
 // Daily gives what a user may take in a day, 0 for no limit. The user "" is a visitor.
 func (l *Limits) Daily(user string) daily.Amount {
-	values := l.Get()
+	values := l.Fresh()
 	most := daily.Amount{Bytes: values.DailyBytes, Child: values.DailyChild}
 	if own, has := values.UserBytes[user]; has {
 		most.Bytes = own
@@ -65,6 +73,19 @@ func (l *Limits) Daily(user string) daily.Amount {
 		most.Child = own
 	}
 	return most
+}
+
+// Owned gives how many bytes, and how many tenants, a user may have in all tenants that it made, 0 for no limit.
+func (l *Limits) Owned(user string) (bytes int64, count int) {
+	values := l.Get()
+	bytes, count = values.OwnedBytes, values.OwnedTenants
+	if own, has := values.UserOwnedBytes[user]; has {
+		bytes = own
+	}
+	if own, has := values.UserOwnedTenants[user]; has {
+		count = own
+	}
+	return bytes, count
 }
 
 // Refusals of limits: sentences for the client.
@@ -77,7 +98,7 @@ var (
 // without its port.
 func (l *Limits) Enter(user, address string) (leave func(), err error) {
 	who := whoIs(user, address)
-	if !l.take(who, l.Get().PerUser) {
+	if !l.take(who, l.Fresh().PerUser) {
 		return nil, ErrUserBusy
 	}
 	return l.leaver(who), nil
@@ -170,7 +191,7 @@ func (b *bounded) Accept() (net.Conn, error) {
 }
 
 func (l *Limits) connect(all, address string) (func(), error) {
-	values := l.Get()
+	values := l.Fresh()
 	if !l.take(all, values.Connections) {
 		return nil, ErrConnections
 	}
@@ -245,6 +266,10 @@ type Values struct {
 	StreamsByUser, StreamsByTenant                 int
 	Quotas, UserBytes                              map[string]int64
 	UserChild                                      map[string]time.Duration
+	OwnedBytes                                     int64
+	OwnedTenants                                   int
+	UserOwnedBytes                                 map[string]int64
+	UserOwnedTenants                               map[string]int
 }
 
 // Watched gives a reader of which each Read has to end within Idle; else `stop` is called, which closes the connection that it reads

@@ -8,10 +8,12 @@ import (
 	"path/filepath"
 	"strings"
 	"sync"
+	"sync/atomic"
 	"testing"
 	"time"
 
 	"gitpoold/daily"
+	"gitpoold/lists"
 )
 
 func quiet(string, ...any) {}
@@ -40,16 +42,18 @@ func TestLimitsAreSetWhileTheServerRuns(t *testing.T) {
 			t.Fatal(err)
 		}
 	}
+	l.Fresh()
 	if l.Quota("acme/site") != 1024 || l.Quota("acme/other") != 3<<20 || l.Get().Idle != 2*time.Second || l.Get().Connections != 7 {
 		t.Fatal(l.Get())
 	}
 	Set(path, "quota", "acme/site", "default")
 	Set(path, "idle", "default")
+	l.Fresh()
 	if l.Quota("acme/site") != 3<<20 || l.Get().Idle != Defaults().Idle {
 		t.Fatal(l.Get())
 	}
 	text, _ := os.ReadFile(path)
-	if string(text) != "# a comment\nquota 3M\nconnections 7\n" {
+	if string(text) != lists.Text("# a comment", "quota 3M", "connections 7") {
 		t.Fatalf("%s", text)
 	}
 	rows, err := Rows(path)
@@ -402,5 +406,99 @@ func TestSpoolsOfPushes(t *testing.T) {
 	second.Free()
 	if len(l.spools) != 1 {
 		t.Fatal(l.spools)
+	}
+}
+
+// asked counts how often the file system is asked for files, or does not answer until the test has ended.
+func asked(t *testing.T, isHung bool) *atomic.Int64 {
+	t.Helper()
+	var count atomic.Int64
+	before, released := lists.Stat, make(chan struct{})
+	lists.Stat = func(path string) (os.FileInfo, error) {
+		count.Add(1)
+		if isHung {
+			<-released
+		}
+		return before(path)
+	}
+	t.Cleanup(func() {
+		close(released)
+		lists.Stat = before
+	})
+	return &count
+}
+
+// carried carries so many bytes from one end of a connection to the other, both of which are bounded, in parts as a push comes.
+func carried(t *testing.T, from, to net.Conn, size int) {
+	t.Helper()
+	go func() {
+		part := make([]byte, 16<<10)
+		for left := size; left > 0; left -= len(part) {
+			if _, err := from.Write(part); err != nil {
+				return
+			}
+		}
+	}()
+	if err := to.SetDeadline(time.Now().Add(time.Minute)); err != nil {
+		t.Fatal(err)
+	}
+	if _, err := io.ReadFull(to, make([]byte, size)); err != nil {
+		t.Fatal(err)
+	}
+}
+
+// TestAConnectionAsksNoFileSystem carries 8 MB each way over a connection and through the body of a request, and holds lines of a push, while the
+// file system does not answer. None of them asks it.
+func TestAConnectionAsksNoFileSystem(t *testing.T) {
+	l, _ := loaded(t, "")
+	listener, err := net.Listen("tcp", "127.0.0.1:0")
+	if err != nil {
+		t.Fatal(err)
+	}
+	listener = l.ListenIdle(listener)
+	defer listener.Close()
+	client, err := net.Dial("tcp", listener.Addr().String())
+	if err != nil {
+		t.Fatal(err)
+	}
+	defer client.Close()
+	server, err := listener.Accept()
+	if err != nil {
+		t.Fatal(err)
+	}
+	defer server.Close()
+	count := asked(t, true)
+	carried(t, client, server, 8<<20)
+	carried(t, server, client, 8<<20)
+	body := l.Watched(strings.NewReader(strings.Repeat("x", 1<<20)), func() {})
+	if read, err := io.Copy(io.Discard, body); err != nil || read != 1<<20 {
+		t.Fatal(read, err)
+	}
+	held := l.Lines("alice", "127.0.0.1:1")
+	for i := 0; i < 1000; i++ {
+		if err := held.Hold(64); err != nil {
+			t.Fatal(err)
+		}
+	}
+	held.Free()
+	if count.Load() != 0 {
+		t.Fatalf("the file system was asked %d times", count.Load())
+	}
+}
+
+// TestARequestAsksOnce has a change that a request notices at once.
+func TestARequestAsksOnce(t *testing.T) {
+	l, path := loaded(t, "")
+	if err := Set(path, "requests-by-user", "1"); err != nil {
+		t.Fatal(err)
+	}
+	count := asked(t, false)
+	leave, err := l.Enter("alice", "127.0.0.1:1")
+	if err != nil || count.Load() != 1 {
+		t.Fatalf("asked %d times: %v", count.Load(), err)
+	}
+	defer leave()
+	if _, err := l.Enter("alice", "127.0.0.1:1"); err != ErrUserBusy {
+		t.Fatal(err)
 	}
 }

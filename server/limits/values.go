@@ -30,6 +30,16 @@ func count(into func(*Values) *int) func(*Values, string) error {
 	}
 }
 
+func countOrNone(into func(*Values) *int) func(*Values, string) error {
+	return func(v *Values, word string) error {
+		if word == "0" {
+			*into(v) = 0
+			return nil
+		}
+		return count(into)(v, word)
+	}
+}
+
 func bytes(into func(*Values) *int64) func(*Values, string) error {
 	return func(v *Values, word string) (err error) {
 		*into(v), err = ParseBytes(word)
@@ -80,6 +90,10 @@ var all = []limit{
 		bytes(func(v *Values) *int64 { return &v.RequestBytes })},
 	{"quota", "1G", "the bytes that a tenant may have; 0 is no limit",
 		bytes(func(v *Values) *int64 { return &v.Quota })},
+	{userBytesName, "4G", "the bytes that a user may have in all tenants that it made; 0 is no limit",
+		bytes(func(v *Values) *int64 { return &v.OwnedBytes })},
+	{userTenantsName, "1000", "the tenants that a user may make by a first push; 0 is no limit",
+		countOrNone(func(v *Values) *int { return &v.OwnedTenants })},
 	{dailyBytesName, "0", "the bytes that a user may push and fetch in a day of UTC; 0 is no limit",
 		bytes(func(v *Values) *int64 { return &v.DailyBytes })},
 	{dailyChildName, "0", "the time of the child that a user's pushes and fetches may take in a day of UTC; 0 is no limit",
@@ -98,11 +112,11 @@ var all = []limit{
 		count(func(v *Values) *int { return &v.StreamsByUser })},
 	{"streams-by-tenant", "16", "streams over ssh of one tenant at once: one is open, and the others wait for their turn",
 		count(func(v *Values) *int { return &v.StreamsByTenant })},
-	{"answer-bytes", "256M", "the bytes of answers over ssh, and of pages, that wait until a user takes them, and so of one answer; as many again of objects above 128 KiB in fetches",
+	{"answer-bytes", "256M", "the bytes of answers over ssh, of pages and of lists of refs that wait until a user takes them, and so of one answer; as many again of objects above 128 KiB in fetches",
 		bytes(func(v *Values) *int64 { return &v.AnswerBytes })},
 	{"line-bytes", "64M", "the bytes of Git's lines that the requests of one user hold at once: refs and options of pushes, wants and haves of fetches",
 		bytes(func(v *Values) *int64 { return &v.LineBytes })},
-	{"fetch-bytes", "1G", "the bytes that the fetches of one user hold at once: 64 for each object that they list, and 256 for each commit that they walk",
+	{"fetch-bytes", "1G", "the bytes that the fetches of one user hold at once: 64 for each object that they list, and 256 for each commit that they walk and each tag that may follow",
 		bytes(func(v *Values) *int64 { return &v.FetchBytes })},
 	{"spool-bytes", "2G", "the bytes of temporary files, and of the lists of what their packs have, that the pushes of one user have at once",
 		bytes(func(v *Values) *int64 { return &v.SpoolBytes })},
@@ -116,9 +130,11 @@ var all = []limit{
 
 // The limits that a tenant, or a user, may have of its own.
 const (
-	quotaName      = "quota"
-	dailyBytesName = "daily-bytes"
-	dailyChildName = "daily-child"
+	quotaName       = "quota"
+	userBytesName   = "user-bytes"
+	userTenantsName = "user-tenants"
+	dailyBytesName  = "daily-bytes"
+	dailyChildName  = "daily-child"
 )
 
 // ParseBytes reads a number of bytes, in all or with K, M, G or T for powers of 1,024.
@@ -146,7 +162,8 @@ func find(name string) (limit, error) {
 
 // Defaults gives the limits of an empty file.
 func Defaults() Values {
-	v := Values{Quotas: map[string]int64{}, UserBytes: map[string]int64{}, UserChild: map[string]time.Duration{}}
+	v := Values{Quotas: map[string]int64{}, UserBytes: map[string]int64{}, UserChild: map[string]time.Duration{}, UserOwnedBytes: map[string]int64{},
+		UserOwnedTenants: map[string]int{}}
 	for _, it := range all {
 		if err := it.set(&v, it.first); err != nil {
 			panic(err)
@@ -197,15 +214,23 @@ func (v *Values) takeOwn(words []string) error {
 	switch {
 	case words[0] == quotaName && tenants.ValidName(words[1]):
 		v.Quotas[words[1]] = own.Quota
+	case words[0] == userBytesName && isOwner(words[1]):
+		v.UserOwnedBytes[words[1]] = own.OwnedBytes
+	case words[0] == userTenantsName && isOwner(words[1]):
+		v.UserOwnedTenants[words[1]] = own.OwnedTenants
 	case words[0] == dailyBytesName && access.ValidUser(words[1]):
 		v.UserBytes[words[1]] = own.DailyBytes
 	case words[0] == dailyChildName && access.ValidUser(words[1]):
 		v.UserChild[words[1]] = own.DailyChild
 	default:
-		return fmt.Errorf("`%s` is no line quota TENANT VALUE, daily-bytes USER VALUE or daily-child USER VALUE", strings.Join(words, " "))
+		return fmt.Errorf("`%s` is no line quota TENANT VALUE, or user-bytes, user-tenants, daily-bytes or daily-child, USER and VALUE",
+			strings.Join(words, " "))
 	}
 	return nil
 }
+
+// isOwner tells whether this may be the owner of tenants: a user, or all visitors together.
+func isOwner(name string) bool { return access.ValidUser(name) || name == tenants.Visitors }
 
 // Row is one limit, as the operator sees it.
 type Row struct{ Name, Value, Default, About string }

@@ -2,11 +2,14 @@ package lists
 
 import (
 	"errors"
+	"fmt"
 	"io/fs"
 	"os"
 	"path/filepath"
 	"reflect"
+	"runtime"
 	"sync"
+	"sync/atomic"
 	"syscall"
 	"testing"
 	"time"
@@ -102,5 +105,91 @@ func TestFilesThatCannotBeReadAreReadLater(t *testing.T) {
 		if time.Now().After(until) {
 			t.Fatalf("%q", f.Get())
 		}
+	}
+}
+
+// hung lets the file system not answer, until it is released.
+func hung(t *testing.T) (asked *atomic.Int64, release func()) {
+	t.Helper()
+	var count atomic.Int64
+	var once sync.Once
+	before, beforePatience, released := Stat, patience, make(chan struct{})
+	release = func() { once.Do(func() { close(released) }) }
+	Stat, patience = func(path string) (fs.FileInfo, error) {
+		count.Add(1)
+		<-released
+		return before(path)
+	}, 50*time.Millisecond
+	t.Cleanup(func() {
+		release()
+		Stat, patience = before, beforePatience
+	})
+	return &count, release
+}
+
+// TestAFileSystemThatDoesNotAnswer keeps one goroutine, and nobody who asks for what files come to. What has changed meanwhile is seen once it
+// answers.
+func TestAFileSystemThatDoesNotAnswer(t *testing.T) {
+	path := filepath.Join(t.TempDir(), "list")
+	os.WriteFile(path, []byte("one"), 0o600)
+	f, err := Follow(func() (string, error) {
+		text, err := os.ReadFile(path)
+		return string(text), err
+	}, t.Logf, path)
+	if err != nil {
+		t.Fatal(err)
+	}
+	asked, release := hung(t)
+	os.WriteFile(path, []byte("another"), 0o600)
+	before := runtime.NumGoroutine()
+	began := time.Now()
+	for i := 0; i < 2000; i++ {
+		if f.Last() != "one" || f.Get() != "one" || f.Within(time.Hour) != "one" {
+			t.Fatal("what was read before does not hold")
+		}
+	}
+	if took := time.Since(began); took > 20*time.Second {
+		t.Fatalf("it took %v", took)
+	}
+	if asked.Load() != 1 || runtime.NumGoroutine() > before+1 {
+		t.Fatalf("asked %d times, by %d goroutines", asked.Load(), runtime.NumGoroutine()-before)
+	}
+	release()
+	for until := time.Now().Add(20 * time.Second); f.Get() != "another"; time.Sleep(time.Millisecond) {
+		if time.Now().After(until) {
+			t.Fatal(f.Get())
+		}
+	}
+}
+
+// TestManyShareOneLook has many that ask at once, each after a change of its own: each sees that change.
+func TestManyShareOneLook(t *testing.T) {
+	path := filepath.Join(t.TempDir(), "list")
+	if err := Change(path, func([]string) ([]string, error) { return nil, nil }); err != nil {
+		t.Fatal(err)
+	}
+	f, err := Follow(func() ([][]string, error) { return Read(path) }, t.Logf, path)
+	if err != nil {
+		t.Fatal(err)
+	}
+	var all sync.WaitGroup
+	for i := 0; i < 20; i++ {
+		all.Add(1)
+		go func(mine string) {
+			defer all.Done()
+			if err := added(path, mine); err != nil {
+				t.Error(err)
+			}
+			for _, words := range f.Get() {
+				if words[0] == mine {
+					return
+				}
+			}
+			t.Errorf("%s is not there", mine)
+		}(fmt.Sprint("line-", i))
+	}
+	all.Wait()
+	if f.Err() != nil || len(f.Last()) != 20 {
+		t.Fatal(f.Err(), f.Last())
 	}
 }

@@ -8,10 +8,13 @@ import (
 	"gitpoold/tenants"
 )
 
+// NotTaken ends the sentence about an object that git's fsck refuses.
+const NotTaken = ", which is not taken here"
+
 // Suspect is an object that receive.fsckObjects of git-config(1) refuses, though a tenant could keep it.
 func suspect(kind string, name tenants.Name, format string, values ...any) error {
 	r := refuse(format, values...)
-	r.Why = kind + " " + short(name) + " " + r.Why + ", which is not taken here"
+	r.Why = kind + " " + short(name) + " " + r.Why + NotTaken
 	return r
 }
 
@@ -57,6 +60,14 @@ func fsckIdent(ident []byte) string {
 	return ""
 }
 
+// FsckIdent says what git's fsck finds in an ident that a tenant could keep, or nothing. It says nothing of one that a tenant cannot keep.
+func FsckIdent(ident []byte) string {
+	if !isIdent(ident) {
+		return ""
+	}
+	return fsckIdent(ident)
+}
+
 // Special says which of the files that git reads by itself a blob is; one may be both.
 type Special int
 
@@ -71,29 +82,40 @@ func fsckEntry(name tenants.Name, entry Entry, found func(tenants.Name, Special)
 	if entry.Name.IsZero() {
 		return suspect("tree", name, "has an entry `%s` that names no object", shown(entry.Path))
 	}
-	if isPlain(entry.Path) {
-		return nil
+	special, why := FsckName(entry.Path, string(entry.Mode) == ModeLink)
+	if why != "" {
+		return suspect("tree", name, "has %s", why)
 	}
-	if isDotGit(entry.Path) {
-		return suspect("tree", name, "has an entry `%s`, which some systems take for .git", shown(entry.Path))
-	}
-	isLink := string(entry.Mode) == ModeLink
-	if isModules(entry.Path) {
-		if isLink {
-			return suspect("tree", name, "has .gitmodules as a symbolic link")
-		}
-		found(entry.Name, Modules)
-	}
-	if isDotFile(entry.Path, attributesFile) && !isLink {
-		found(entry.Name, Attributes)
+	if special != 0 {
+		found(entry.Name, special)
 	}
 	return nil
 }
 
-// Most of a .gitattributes file that git reads.
+// FsckName says what git's fsck finds in an entry of a tree by its name alone, or nothing, and which files git takes it for.
+func FsckName(path []byte, isLink bool) (special Special, why string) {
+	if isPlain(path) {
+		return 0, ""
+	}
+	if isDotGit(path) {
+		return 0, "an entry `" + shown(path) + "`, which some systems take for .git"
+	}
+	if isModules(path) {
+		if isLink {
+			return 0, ".gitmodules as a symbolic link"
+		}
+		special |= Modules
+	}
+	if isDotFile(path, attributesFile) && !isLink {
+		special |= Attributes
+	}
+	return special, ""
+}
+
+// Most of a .gitattributes file that git reads: the lines are shorter than LongestAttributesLine.
 const (
 	longestAttributes     = 100 << 20
-	longestAttributesLine = 2048
+	LongestAttributesLine = 2048
 )
 
 // FsckSpecial gives a *Refusal where a file that git reads by itself would do harm, or is no blob.
@@ -113,8 +135,8 @@ func FsckSpecial(o tenants.Object, special Special) error {
 		return suspect("blob", o.Name, "is a .gitattributes of more than %d bytes", longestAttributes)
 	}
 	for _, line := range bytes.Split(o.Contents, []byte("\n")) {
-		if len(line) >= longestAttributesLine {
-			return suspect("blob", o.Name, "is a .gitattributes with a line of more than %d bytes", longestAttributesLine-1)
+		if len(line) >= LongestAttributesLine {
+			return suspect("blob", o.Name, "is a .gitattributes with a line of more than %d bytes", LongestAttributesLine-1)
 		}
 	}
 	return nil

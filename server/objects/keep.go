@@ -329,11 +329,11 @@ var refForbidden = regexp.MustCompile(`[\x00-\x20\x7f~^:?*\[\\]|\.\.|@\{|//|/\.|
 
 // CheckRef gives a *Refusal where a tenant can have no ref of this name.
 func CheckRef(ref string) error {
-	if !strings.HasPrefix(ref, "refs/") || strings.HasPrefix(ref, "refs/namespaces/") {
-		return refuse("%s is no name for a ref: it begins with refs/, and not with refs/namespaces/", shown([]byte(ref)))
-	}
 	if len(ref) > longestRef {
 		return refuse("a ref name has more than %d bytes", longestRef)
+	}
+	if !strings.HasPrefix(ref, "refs/") || strings.HasPrefix(ref, "refs/namespaces/") {
+		return refuse("%s is no name for a ref: it begins with refs/, and not with refs/namespaces/", shown([]byte(ref)))
 	}
 	if refForbidden.Match(latin([]byte(ref))) {
 		return refuse("%s is no name for a ref", shown([]byte(ref)))

@@ -177,11 +177,23 @@ func (d *Door) move(ctx context.Context, words []string) (string, error) {
 
 // copyTenant copies a tenant, as it is after its last push or checkpoint, to an empty one, to which no push is at work meanwhile.
 func (d *Door) copyTenant(ctx context.Context, from, to string) error {
-	return d.operate([]string{to, from}, d.alone(to, func() error { return d.store.Copy(ctx, from, to) }))
+	return d.operate([]string{to, from}, d.alone(to, func() error {
+		err := d.store.Copy(ctx, from, to)
+		if err == nil && d.site.Owners != nil {
+			err = d.site.Owners.Put(to, d.site.Owners.Of(from))
+		}
+		return err
+	}))
 }
 
 func (d *Door) removeTenant(ctx context.Context, name string) error {
-	return d.operate([]string{name}, d.alone(name, func() error { return d.store.Remove(ctx, name) }))
+	return d.operate([]string{name}, d.alone(name, func() error {
+		err := d.store.Remove(ctx, name)
+		if err == nil && d.site.Owners != nil {
+			err = d.site.Owners.Forget(name)
+		}
+		return err
+	}))
 }
 
 func (d *Door) compactTenant(ctx context.Context, name string) error {
@@ -220,6 +232,9 @@ func (d *Door) tenants(context.Context, []string) (string, error) {
 	for _, it := range d.store.Usages() {
 		fmt.Fprintf(&text, "%s objects %d refs %d bytes %d own %d since %d quota %d", it.Name, it.Objects, it.Refs, it.Bytes, it.Own,
 			it.Since, d.site.Limits.Quota(it.Name))
+		if d.site.Owners != nil {
+			fmt.Fprintf(&text, " owner %s", d.site.Owners.Of(it.Name))
+		}
 		if d.store.Count() > 1 {
 			fmt.Fprintf(&text, " shard %d", d.store.ShardOf(it.Name))
 		}
@@ -262,6 +277,9 @@ func (d *Door) status(context.Context, []string) (string, error) {
 	line("failed-saves", state.FailedSaves)
 	line("last-save", when(state.LastSave))
 	line("children-replaced", state.Recoveries)
+	for _, err := range d.site.Unread() {
+		line("list-unread", err)
+	}
 	if len(states) > 1 {
 		tellShards(&text, states)
 	}
@@ -309,6 +327,8 @@ func (d *Door) Measure() {
 	m.Gauge("gitpoold_open_streams", "Streams that are open.", number(func(s store.State) int64 { return int64(s.Streams) }))
 	m.Gauge("gitpoold_connections", "Connections that are open.", func() float64 { return float64(d.site.Limits.Connections()) })
 	m.Gauge("gitpoold_child_resident_bytes", "The memory of the children.", func() float64 { return float64(residentOf(d.store.States())) })
+	m.Gauge("gitpoold_lists_unread", "Lists of the operator that cannot be read; what was read before holds.",
+		func() float64 { return float64(len(d.site.Unread())) })
 	m.Gauge("gitpoold_shards", "Shards.", func() float64 { return float64(d.store.Count()) })
 	m.Gauge("gitpoold_server_resident_bytes", "The memory of the server.", func() float64 { return float64(child.Resident(os.Getpid())) })
 }

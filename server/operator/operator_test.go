@@ -286,7 +286,7 @@ func TestCommands(t *testing.T) {
 	if got := call("save"); got != "" {
 		t.Error(got)
 	}
-	if got := call("tenants"); got != "acme/site objects 2 refs 1 bytes 97 own 97 since 0 quota 5242880\n" {
+	if got := call("tenants"); got != "acme/site objects 2 refs 1 bytes 176 own 176 since 0 quota 5242880\n" {
 		t.Error(got)
 	}
 	for _, line := range []string{"version            9", "saves              1", "pushes             1", "answering          true"} {

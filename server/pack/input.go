@@ -63,7 +63,8 @@ func (in *input) ReadByte() (byte, error) {
 	return in.buffer[in.start-1], nil
 }
 
-// finish reads the digest at the end of a pack and compares it. Bytes after it are refused.
+// finish reads the digest at the end of a pack and compares it. Bytes after it are refused where they are there already, and not waited for: a client
+// that keeps its side open waits for the report.
 func (in *input) finish() error {
 	in.digest.Write(in.buffer[:in.start])
 	copy(in.buffer, in.buffer[in.start:in.end])
@@ -77,9 +78,6 @@ func (in *input) finish() error {
 		return wrong("its digest is not that of its bytes")
 	}
 	if in.start < in.end {
-		return wrong("bytes stand after its end")
-	}
-	if n, _ := io.ReadAtLeast(in.from, in.buffer, 1); n > 0 {
 		return wrong("bytes stand after its end")
 	}
 	return nil

@@ -52,6 +52,9 @@ func (q *Quarantine) Close() error { return q.spool.file.Close() }
 // Len is how many entries the pack has.
 func (q *Quarantine) Len() int { return len(q.entries) }
 
+// Bytes is how many bytes the objects of the pack have, and what they were made from.
+func (q *Quarantine) Bytes() int64 { return q.spool.end }
+
 // Find gives the place of an object of the pack among its entries.
 func (q *Quarantine) Find(name tenants.Name) (at int, isOwn bool) {
 	found, isOwn := q.own[name]

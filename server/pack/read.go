@@ -33,7 +33,7 @@ type reading struct {
 	last     []byte
 }
 
-// Read reads a whole pack up to the end of the input. An error is a sentence for the client; the objects that were read before it
+// Read reads a whole pack, and does not wait for the end of the input. An error is a sentence for the client; the objects that were read before it
 // are of no use.
 func (q *Quarantine) Read(ctx context.Context, from io.Reader) error {
 	r := &reading{Quarantine: q, in: newInput(from, q.limits.PackBytes), byEntry: map[int][]int{}, byName: map[tenants.Name][]int{}}

@@ -43,6 +43,15 @@ func (w *Writer) Text(text string) {
 // Band says whether all lines from here on are of the first band: sideband-all of gitprotocol-v2(5).
 func (w *Writer) Band(isOn bool) { w.band = isOn }
 
+// Refuse writes why a request is refused: on the error channel where all lines are in bands, as git does, else after ERR.
+func (w *Writer) Refuse(why string) {
+	if w.band {
+		fmt.Fprint(w.Sideband(ErrorChannel, false), why)
+		return
+	}
+	w.Line("ERR %s", why)
+}
+
 // FlushPacket ends a section or a message.
 func (w *Writer) FlushPacket() { w.put("0000") }
 

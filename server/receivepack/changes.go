@@ -9,9 +9,6 @@ import (
 	"gitpoold/tenants"
 )
 
-// mostFiles is how many files a branch may have: docs/FORMATS.md.
-const mostFiles = 1_048_576
-
 // changeRoot tells the changes between two trees.
 func (f *feeding) changeRoot(old, new, of tenants.Name) error {
 	if new == objects.EmptyTree && old != new {
@@ -45,7 +42,9 @@ func (f *feeding) change(old, new tenants.Name, under []byte) error {
 func (f *feeding) remove(before, after, under []byte) {
 	_ = pair(before, after, func(old, new *objects.Entry) error {
 		if new == nil {
-			f.put("D ", objects.Quote(join(under, old.Path)), "\n")
+			path := join(under, old.Path)
+			f.count(path)
+			f.put("D ", objects.Quote(path), "\n")
 		}
 		return nil
 	})
@@ -63,11 +62,21 @@ func (f *feeding) add(before, after, under []byte) error {
 		if err := objects.CheckPath(path); err != nil {
 			return err
 		}
+		if f.count(path); f.err != nil {
+			return f.err
+		}
 		if new.IsTree() {
 			return f.addTree(old, new, path)
 		}
 		return f.addFile(new, path)
 	})
+}
+
+// count counts the line of a path that is told. Commits may tell the same trees again and again.
+func (f *feeding) count(path []byte) {
+	if f.unfolded += pathCost + int64(len(path)); f.err == nil && f.unfolded > f.mostUnfolded() {
+		f.err = errUnfolds
+	}
 }
 
 // addTree tells what a directory has. One that the pack has not is the tenant's, and is told by its name.

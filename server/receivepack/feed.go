@@ -14,17 +14,26 @@ import (
 type feeding struct {
 	*push
 	ctx     context.Context
-	to      *tenants.Stream
+	to      sink
 	scratch string
 	told    []bool                  // of the entries of the pack: the blobs that were told
 	outside map[tenants.Name]string // objects that the pack has not, and what names them
 	trees   treeCache
 	err     error
+	// unfolded are the bytes of the lines of paths so far.
+	unfolded int64
+	// lacking are objects of which it is known that the tenant has not them, and lacks says which of them was named.
+	lacking map[tenants.Name]bool
+	lacks   string
+}
+
+func (p *push) feeding(ctx context.Context, to sink) *feeding {
+	return &feeding{push: p, ctx: ctx, to: to, scratch: p.scratchRef(), told: make([]bool, p.own.Len()), outside: map[tenants.Name]string{}}
 }
 
 // feed tells the stream: commits with what changed since their first parents, then tags, then refs.
 func (p *push) feed(ctx context.Context, to *tenants.Stream) error {
-	f := &feeding{push: p, ctx: ctx, to: to, scratch: p.scratchRef(), told: make([]bool, p.own.Len()), outside: map[tenants.Name]string{}}
+	f := p.feeding(ctx, to)
 	err := f.all()
 	// An object that is missing is told by its name and place, and not by the number of a fault.
 	if missing := f.missing(); missing != nil && (err == nil || tenants.IsSentence(err)) {
@@ -85,7 +94,7 @@ func (f *feeding) expect(name tenants.Name) error {
 // scratchRef gives a name that no ref has, for the branch that commits are made on.
 func (p *push) scratchRef() string {
 	name := "refs/gitpool/push"
-	for !p.refs[name].IsZero() || !p.was[name].IsZero() {
+	for !p.now(name).IsZero() || !p.was.Target(name).IsZero() {
 		name += "-"
 	}
 	return name
@@ -219,21 +228,38 @@ func (f *feeding) note(name tenants.Name, what string) {
 	if f.outside[name] == "" {
 		f.outside[name] = what
 	}
+	if f.lacking[name] && f.lacks == "" {
+		f.lacks = notHere(what, name)
+	}
 }
 
-// missing finds which object that the pack has not the tenant has not either.
+func notHere(what string, name tenants.Name) string {
+	return what + " " + name.String() + ", which is not here: push from a repository that is whole and not shallow"
+}
+
+// missing gives a *Refusal where an object that the pack has not is not the tenant's either.
 func (f *feeding) missing() error {
+	gone, err := f.gone()
+	for name := range gone {
+		return refusal(notHere(f.outside[name], name))
+	}
+	return err
+}
+
+// gone finds which objects that the pack has not the tenant has not either.
+func (f *feeding) gone() (map[tenants.Name]bool, error) {
 	names := make([]tenants.Name, 0, len(f.outside))
 	for name := range f.outside {
 		names = append(names, name)
 	}
 	has, err := f.t.Has(f.ctx, names)
+	gone := map[tenants.Name]bool{}
 	for at, name := range names {
 		if err == nil && !has[at] {
-			return refusal(f.outside[name] + " " + name.String() + ", which is not here: push from a repository that is whole and not shallow")
+			gone[name] = true
 		}
 	}
-	return err
+	return gone, err
 }
 
 // tag tells an annotated tag and asks for its name. A blob that it is of is told before it.
@@ -298,7 +324,7 @@ func (f *feeding) blob(at int) error {
 func (f *feeding) setRefs(tags []tenants.Name) error {
 	restored := f.restored(tags)
 	for _, change := range f.good() {
-		if _, is := restored[change.Ref]; !is && f.kinds[change.New] != tenants.Tag {
+		if _, is := restored[change.Ref]; !is && f.now(change.Ref) == change.New && f.kinds[change.New] != tenants.Tag {
 			f.put(resetCommand(change.Ref, change.New))
 		}
 	}
@@ -322,8 +348,8 @@ func (f *feeding) restored(tags []tenants.Name) map[string]tenants.Name {
 	restored := map[string]tenants.Name{}
 	for _, name := range tags {
 		ref := tagRefs + f.tags[name].Name
-		if f.refs[ref] != name {
-			restored[ref] = f.refs[ref]
+		if target := f.now(ref); target != name {
+			restored[ref] = target
 		}
 	}
 	return restored

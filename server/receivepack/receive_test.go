@@ -47,8 +47,8 @@ func TestRequests(t *testing.T) {
 		!reflect.DeepEqual(q.options, []string{"one", "two 2"}) || !q.hasPack || q.refusal != nil {
 		t.Fatalf("%+v, %v", q, err)
 	}
-	for _, text := range []string{"", "0000"} {
-		if q, err := readText(text); err != nil || len(q.changes) != 0 {
+	for text, want := range map[string]error{"": errHungUp, "0000": nil} {
+		if q, err := readText(text); err != want || len(q.changes) != 0 {
 			t.Errorf("%q: %v", text, err)
 		}
 	}
@@ -102,7 +102,7 @@ func TestARefusedPushIsReported(t *testing.T) {
 		"more than 1024 options": lines(append(append([]string{first, ""}, strings.Split(strings.Repeat("o", 1025), "")...), "")...) + "PACK",
 		"signed pushes":          lines(first, "push-cert\x00x", change+long, "", "") + "PACK",
 	} {
-		report, rest, err := answered(Server{Lines: &budget{100_000, 100_000}}, text)
+		report, rest, err := answered(Server{Lines: &budget{100_000, 100_000}, EndsItself: true}, text)
 		reader := pktline.NewReader(bufio.NewReader(strings.NewReader(report)), mostLines)
 		head, bad := reader.Next()
 		if err == nil || bad != nil || !strings.HasPrefix(string(head.Text), "unpack ") || !strings.Contains(string(head.Text), says) || rest != "" {
@@ -114,7 +114,8 @@ func TestARefusedPushIsReported(t *testing.T) {
 	}
 	// A push without a pack leaves what stands after its lines.
 	gone := ones + " " + zeros + " refs/heads/a\x00report-status"
-	if report, rest, err := answered(Server{}, lines(gone, "hello", "")+"next"); err == nil || rest == "" || !strings.Contains(report, "malformed") {
+	report, rest, err := answered(Server{EndsItself: true}, lines(gone, "hello", "")+"next")
+	if err == nil || rest == "" || !strings.Contains(report, "malformed") {
 		t.Error(report, rest, err)
 	}
 }
@@ -132,17 +133,24 @@ func TestALongNameSpoilsNoReport(t *testing.T) {
 		t.Fatal(q, err)
 	}
 	for _, whole := range []error{nil, pktline.ErrTooMuch} {
-		p := &push{request: q, bad: map[string]string{}}
+		p := newPush(Server{}, tenants.Tenant{}, q)
 		if err := p.examineRefs(context.Background()); err != nil {
 			t.Fatal(err)
 		}
-		report := pktline.NewReader(bufio.NewReader(bytes.NewReader(p.status(whole))), mostLines)
+		copy(p.bad, p.unfit)
+		var text bytes.Buffer
+		p.status(&text, whole)
+		report := pktline.NewReader(bufio.NewReader(&text), mostLines)
 		head, err := report.Next()
 		if err != nil || !strings.HasPrefix(string(head.Text), "unpack ") {
 			t.Fatal(head, err)
 		}
 		for _, it := range names {
-			if packet, err := report.Next(); err != nil || !strings.HasPrefix(string(packet.Text), "ng "+it+" ") {
+			want := "ng " + it + " "
+			if whole == nil && len(it) < 100 {
+				want = "ok " + it
+			}
+			if packet, err := report.Next(); err != nil || !strings.HasPrefix(string(packet.Text), want) {
 				t.Fatal(len(packet.Text), err)
 			}
 		}
@@ -323,4 +331,13 @@ func FuzzPair(f *testing.F) {
 			return nil
 		})
 	})
+}
+
+// TestWhoAsksForNothingIsToldNothing has a client that ends the session, and one that asks for no change.
+func TestWhoAsksForNothingIsToldNothing(t *testing.T) {
+	for text, want := range map[string]error{"": errHungUp, lines(""): nil} {
+		if report, _, err := answered(Server{}, text); report != "" || err != want {
+			t.Errorf("%q: %q %v", text, report, err)
+		}
+	}
 }

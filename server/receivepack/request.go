@@ -26,7 +26,7 @@ func Advertise(ctx context.Context, t tenants.Tenant, out *pktline.Writer, versi
 	if version == 1 {
 		out.Line("version 1")
 	}
-	uploadpack.AdvertiseRefs(out, refs, capabilities, nil)
+	uploadpack.AdvertiseRefs(out, refs, capabilities)
 	return out.Flush()
 }
 
@@ -57,13 +57,13 @@ func refused(format string, values ...any) error {
 	return uploadpack.Refused{Why: fmt.Sprintf(format, values...)}
 }
 
-// readRequest reads up to the pack. It has no changes where the client ends the session. What refuses the push is kept, and the rest of the
-// request is read: a client that is still sending would not come to read a report.
+// readRequest reads up to the pack. It has no changes where the client asks for none, and is errHungUp where the client ends the session instead.
+// What refuses the push is kept, and the rest of the request is read: a client that is still sending would not come to read a report.
 func readRequest(reader *pktline.Reader) (*request, error) {
 	q := &request{can: map[string]bool{}}
 	err := q.each(reader, q.line)
 	if err == io.EOF && len(q.changes) == 0 && q.refusal == nil {
-		return q, nil
+		return q, errHungUp
 	}
 	if err == nil && q.can["push-options"] && len(q.changes) > 0 {
 		err = q.each(reader, q.option)
@@ -105,6 +105,10 @@ func (q *request) skim(line string) {
 		q.hasPack = q.hasPack || isNew && !new.IsZero()
 	}
 }
+
+// errHungUp says that a client ended the session without a request, not even an empty one. Nobody is there to be told, but the status tells it: a git
+// that finds no ref to push ends so, and fails by that status, as with git's own server.
+var errHungUp = errors.New("the client hung up without a request")
 
 func cut(err error) error {
 	if err == io.EOF || err == io.ErrUnexpectedEOF {

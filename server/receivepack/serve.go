@@ -2,7 +2,6 @@ package receivepack
 
 import (
 	"bufio"
-	"bytes"
 	"context"
 	"errors"
 	"fmt"
@@ -23,6 +22,9 @@ type Server struct {
 	AllowsSuspect bool // takes objects that receive.fsckObjects of git-config(1) refuses
 	// Lines counts the bytes of refs and options while a push has them; nil counts nothing.
 	Lines pktline.Budget
+	// EndsItself tells that the request ends whatever the client is told: over http, where the answer comes after the request. Else the client may
+	// keep its side open until it has read the report.
+	EndsItself bool
 	// Lasts is told what a push has changed once that lasts, before another push of the tenant begins; it may be nil.
 	Lasts func(Result)
 }
@@ -41,6 +43,9 @@ func (s Server) Serve(ctx context.Context, t tenants.Tenant, in *bufio.Reader, o
 	reader := pktline.NewReader(in, mostLines)
 	reader.Charge(s.Lines)
 	q, err := readRequest(reader)
+	if errors.Is(err, errHungUp) {
+		return Result{}, err
+	}
 	if err == nil && !q.mayReport() {
 		err = q.refusal
 	}
@@ -52,15 +57,16 @@ func (s Server) Serve(ctx context.Context, t tenants.Tenant, in *bufio.Reader, o
 	if len(q.changes) == 0 && q.refusal == nil {
 		return Result{}, nil
 	}
-	p := &push{Server: s, request: q, t: t, bad: map[string]string{}}
+	p := newPush(s, t, q)
+	p.out = out
 	whole := q.refusal
 	if whole == nil {
 		whole = p.carryOut(ctx, in)
 	}
-	if whole != nil && q.hasPack {
+	if whole != nil && q.hasPack && !p.isRead && s.EndsItself {
 		_, _ = io.CopyN(io.Discard, in, mostDrained)
 	}
-	failed := p.report(out, whole)
+	failed := p.report(whole)
 	result := Result{Changes: p.good(), Options: q.options, Failed: p.failed}
 	if whole != nil {
 		result.Changes = nil
@@ -73,7 +79,7 @@ func (s Server) Serve(ctx context.Context, t tenants.Tenant, in *bufio.Reader, o
 // mayReport tells whether the client takes a report of the push.
 func (q *request) mayReport() bool { return q.can["report-status"] || q.can["report-status-v2"] }
 
-// mostDrained is how much of a refused pack is read, so that a client that is still sending comes to read the report.
+// mostDrained is how much of a refused push is read, so that a client that is still sending comes to read the report.
 const mostDrained = 64 << 20
 
 // push is one push on its way.
@@ -81,16 +87,24 @@ type push struct {
 	Server
 	*request
 	t     tenants.Tenant
+	out   *pktline.Writer
 	own   *pack.Quarantine
 	heads map[tenants.Name]objects.Head // of the commits in the pack
 	tags  map[tenants.Name]*objects.Tag // in the pack, or held by a ref of this push; without their taggers and messages
-	bad   map[string]string             // why a ref does not change
-	head  string                        // what HEAD is to name, or nothing
-	refs  tenants.Refs                  // as they are to be
-	was   tenants.Refs
 	kinds map[tenants.Name]tenants.Kind // of what refs are to hold
+	unfit []string                      // why a change is refused whatever the refs are, at its place among the changes, or nothing
+	bad   []string                      // why it is refused
+	standing
+	head string // what HEAD is to name, or nothing
 
-	failed error // why all refs were refused
+	isRead bool   // whether the pack has been read to its end
+	hint   string // what a user can do
+	failed error  // why all refs were refused
+}
+
+func newPush(s Server, t tenants.Tenant, q *request) *push {
+	count := len(q.changes)
+	return &push{Server: s, request: q, t: t, unfit: make([]string, count), bad: make([]string, count)}
 }
 
 // carryOut reads the pack, judges all of it, and feeds it. The error is about the push as a whole.
@@ -107,19 +121,31 @@ func (p *push) carryOut(ctx context.Context, in io.Reader) error {
 		if err := p.own.Read(ctx, in); err != nil {
 			return err
 		}
+		p.isRead = true
 	}
+	defer p.keepAlive()()
 	if err := p.examine(ctx); err != nil {
 		return err
 	}
-	err = p.t.Push(ctx, func(refs tenants.Refs) error { return p.judge(ctx, refs) }, func(s *tenants.Stream) error {
-		s.WhenItLasts(p.tell)
-		return p.feed(ctx, s)
-	})
+	err = p.attempt(ctx)
+	if errors.As(err, new(*objects.Refusal)) {
+		if err = p.blame(ctx); err == nil {
+			err = p.attempt(ctx)
+		}
+	}
 	if err != nil && err != errNothing {
 		p.refuseAll(sentence(err))
 		p.failed = err
 	}
 	return nil
+}
+
+// attempt changes the refs that may change, or none.
+func (p *push) attempt(ctx context.Context) error {
+	return p.t.Push(ctx, func(refs tenants.Refs) error { return p.judge(ctx, refs) }, func(s *tenants.Stream) error {
+		s.WhenItLasts(p.tell)
+		return p.feed(ctx, s)
+	})
 }
 
 func (p *push) tell() {
@@ -139,17 +165,17 @@ func (p *push) limits() (pack.Limits, error) {
 }
 
 func (p *push) refuseAll(why string) {
-	for _, change := range p.changes {
-		if p.bad[change.Ref] == "" {
-			p.bad[change.Ref] = why
+	for at := range p.bad {
+		if p.bad[at] == "" {
+			p.bad[at] = why
 		}
 	}
 }
 
 // good gives the changes that are made.
 func (p *push) good() (changes []Change) {
-	for _, change := range p.changes {
-		if p.bad[change.Ref] == "" {
+	for at, change := range p.changes {
+		if p.bad[at] == "" {
 			changes = append(changes, change)
 		}
 	}
@@ -157,17 +183,16 @@ func (p *push) good() (changes []Change) {
 }
 
 // report tells what became of each ref: gitprotocol-pack(5), "Reporting Errors".
-func (p *push) report(out *pktline.Writer, whole error) error {
-	hasBands := p.can["side-band-64k"]
-	if wayOut := wayOutOf(whole); wayOut != "" && hasBands {
-		fmt.Fprintf(out.Sideband(pktline.ProgressChannel, false), "%s\n", wayOut)
+func (p *push) report(whole error) error {
+	hasBands, out := p.can["side-band-64k"], p.out
+	if hasBands {
+		_, _ = io.WriteString(out.Sideband(pktline.ProgressChannel, false), p.remarks(whole))
 	}
 	if p.mayReport() {
-		text := p.status(whole)
 		if hasBands {
-			_, _ = out.Sideband(pktline.DataChannel, false).Write(text)
+			p.status(out.Sideband(pktline.DataChannel, false), whole)
 		} else {
-			_, _ = out.Raw(text)
+			p.status(out.Bare(), whole)
 		}
 	}
 	if hasBands {
@@ -176,28 +201,64 @@ func (p *push) report(out *pktline.Writer, whole error) error {
 	return out.Flush()
 }
 
-func (p *push) status(whole error) []byte {
-	var text bytes.Buffer
-	lines := pktline.NewWriter(&text)
+// mostRemarks is of how many refs the reason stands on the band of progress too.
+const mostRemarks = 16
+
+// remarks are what stands on the band of progress: what a user can do, and before it the reasons where the client may not show those of the report.
+// git, which asks for the second form of reports, shows them; libgit2 drops them.
+func (p *push) remarks(whole error) string {
+	var text strings.Builder
+	if !p.can["report-status-v2"] {
+		p.complain(&text, whole)
+	}
+	if wayOut := wayOutOf(whole); wayOut != "" {
+		fmt.Fprintf(&text, "%s\n", wayOut)
+	}
+	if p.hint != "" && whole == nil {
+		fmt.Fprintf(&text, "%s\n", p.hint)
+	}
+	return text.String()
+}
+
+func (p *push) complain(text *strings.Builder, whole error) {
+	if whole != nil {
+		fmt.Fprintf(text, "error: %s\n", sentence(whole))
+		return
+	}
+	told := 0
+	for at, change := range p.changes {
+		if p.bad[at] == "" {
+			continue
+		}
+		if told++; told > mostRemarks {
+			fmt.Fprintf(text, "error: further refs are refused\n")
+			return
+		}
+		fmt.Fprintf(text, "error: %s: %s\n", strings.ToValidUTF8(brief(change.Ref), "?"), p.bad[at])
+	}
+}
+
+// status writes the report, of which no more than a packet is held: it may have as many bytes as the lines of the push.
+func (p *push) status(to io.Writer, whole error) {
+	lines := pktline.NewWriter(to)
 	tell := func(line string) { lines.Text(fitting(line) + "\n") }
 	if whole == nil {
 		tell("unpack ok")
 	} else {
 		tell("unpack " + sentence(whole))
 	}
-	for _, change := range p.changes {
+	for at, change := range p.changes {
 		switch {
 		case whole != nil:
 			tell("ng " + change.Ref + " unpacker error")
-		case p.bad[change.Ref] != "":
-			tell("ng " + change.Ref + " " + p.bad[change.Ref])
+		case p.bad[at] != "":
+			tell("ng " + change.Ref + " " + p.bad[at])
 		default:
 			tell("ok " + change.Ref)
 		}
 	}
 	lines.FlushPacket()
 	lines.Flush()
-	return text.Bytes()
 }
 
 // fitting cuts a line to what fits into a packet. The line that named a ref had two names of objects too, so what is cut is the reason.

@@ -215,7 +215,8 @@ def refs_that_git_forbids(room: ServerRoom) -> None:
         asks(room, before)
     twice = line(b"%b %b refs/heads/x\0report-status" % (b"0" * 40, main)) + line(b"%b %b refs/heads/x" % (b"0" * 40, main)) + b"0000"
     told = room.post("git-receive-pack", twice + pack([]))
-    assert b"twice" in told, told
+    assert b"ok refs/heads/x" in told and b"ng refs/heads/x fetch first" in told, told
+    before["refs/heads/x"] = main.decode()
     further = b"".join(line(b"%b %b refs/heads/b%d" % (b"0" * 40, main, at)) for at in range(1, 100_000))
     many = command(new=main, ref=b"refs/heads/b0")[:-4] + further
     told = room.post("git-receive-pack", many + b"0000" + pack([]))

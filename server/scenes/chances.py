@@ -117,7 +117,6 @@ class Bare(World):
         self.must("", 0, "init", "-q", "--bare", "bare")
         for key in ("receive.fsckObjects", "uploadpack.allowFilter", "uploadpack.allowAnySHA1InWant", "receive.advertiseAtomic"):
             self.must("bare", 0, "config", key, "true")
-        self.must("bare", 0, "config", "receive.denyDeleteCurrent", "ignore")
         super().set_up()
 
     def ask(self, queries: List[bytes]) -> str:

@@ -6,7 +6,7 @@ import signal
 import subprocess
 import time
 
-from served import ServerRoom, once, scene
+from served import ServerRoom, once, scene, text
 
 
 @scene
@@ -109,8 +109,13 @@ def head_names_a_branch_that_was_pushed(room: ServerRoom) -> None:
     assert room.tenant_head() == "refs/heads/trunk"
     room.git(site, "push", "-q", room.url(), "trunk:refs/heads/main")
     assert room.tenant_head() == "refs/heads/trunk"
-    room.git(site, "push", "-q", room.url(), ":trunk", "trunk:refs/heads/next")
-    assert room.tenant_head() == "refs/heads/next"
+    said = room.fails(site, "push", "-q", room.url(), ":trunk", "trunk:refs/heads/next", says="deletion of the current branch prohibited")
+    assert "remote: HEAD names refs/heads/trunk" in said and set(room.tenant_refs()) == {f"refs/heads/{it}" for it in ("main", "next", "trunk")}, said
+    assert room.tenant_head() == "refs/heads/trunk"
+    command = f"echo option gitpool head refs/heads/next | $GIT_SSH_COMMAND -p {room.ssh[1]} alice@{room.ssh[0]} import acme/site"
+    done = room.run(["sh", "-c", command], "")
+    assert done.returncode == 0 and room.tenant_head() == "refs/heads/next", text(done.stderr)
+    room.git(site, "push", "-q", room.url(), ":trunk")
     room.git(site, "branch", "master")
     room.git(site, "push", "-q", room.url("acme/other"), "trunk:refs/heads/a", "master")
     assert room.tenant_head("acme/other") == "refs/heads/master"

@@ -16,11 +16,19 @@ def stored(room: ServerRoom, at: str, kind: str, data: bytes) -> str:
 
 
 def refused(room: ServerRoom, at: str, *refs: str, says: str) -> str:
-    """Asks that a push is refused, alone and beside another ref, and that nothing changed."""
+    """Asks that refs are refused: alone, and with another ref if the push is atomic or has an object that cannot be kept. Else the other ref
+    changes. Nothing else does."""
     before = room.tenant_refs()
-    room.fails(at, "push", room.url(), "main:refs/heads/fine", *refs, says=says)
+    room.fails(at, "push", "--atomic", room.url(), "main:refs/heads/fine", *refs, says=says)
+    assert room.tenant_refs() == before
+    said = room.fails(at, "push", room.url(), "main:refs/heads/fine", *refs, says=says)
+    is_whole = "remote unpack failed" in said
+    assert is_whole == ("refs/heads/fine" not in room.tenant_refs()), said
+    if not is_whole:
+        room.git(at, "push", "-q", room.url(), ":refs/heads/fine")
     said = room.fails(at, "push", room.url(), *refs, says=says)
     assert "rejected]" in said or "hung up" not in said, said
+    assert said.count(says) < 2 or not is_whole, said
     assert room.tenant_refs() == before
     return said
 
@@ -49,6 +57,7 @@ def what_a_tenant_cannot_keep(room: ServerRoom) -> None:
     refused(room, site, "refs/tags/renamed", says="an annotated tag is kept under its own name alone, refs/tags/v1")
     refused(room, site, "v1:refs/heads/tagged", says="an annotated tag is kept under its own name alone")
     refused(room, site, "main:refs/namespaces/a/refs/heads/b", says="no name for a ref")
+    refused(room, site, "main:refs/stash", says="refs/stash is no name for a ref: git takes none that stands right below refs/")
     refused(room, site, "main:refs/heads/main/below", says="is a ref, and git cannot have both")
     blob = bytes.fromhex(room.name(site, "main:index.html"))
     commit_of(room, site, stored(room, site, "tree", b"100664 a\0" + blob))
@@ -174,13 +183,12 @@ def lists_of_fetches_are_bounded(room: ServerRoom) -> None:
 
 @once
 def a_ref_of_65_kilobytes(room: ServerRoom) -> None:
-    """A ref whose name is nearly as long as a packet is refused, and the report of the other refs comes whole."""
+    """A ref whose name is nearly as long as a packet is refused alone, and the report of the other refs comes whole."""
     site = room.pushed()
     before = room.tenant_refs()
     long = "main:refs/heads/" + "x" * 65_300
     said = room.fails(site, "push", room.url(), "main:refs/heads/fine", long, "main:refs/heads/other", says="a ref name has more than 1024 bytes")
-    for ref in ("fine", "other"):
-        assert f"main -> {ref} (nothing was pushed, for refs/heads/xxx" in said, said[-1000:]
+    before.update({f"refs/heads/{ref}": room.name(site, "main") for ref in ("fine", "other")})
     assert "failed to report" not in said and room.tenant_refs() == before, said[-1000:]
 
 
@@ -197,3 +205,19 @@ def files_of_pushes_are_bounded(room: ServerRoom) -> None:
     room.serverd("limits", room.served, "spool-bytes", "default")
     room.git(site, "push", "-q", room.url(), "main", ":refs/heads/small")
     room.same(site)
+
+
+@once
+def a_large_pack_is_refused_while_git_sends_it(room: ServerRoom) -> None:
+    """git shows why a pack is refused, though it has more to send than the server reads on."""
+    site = room.pushed()
+    before = room.tenant_refs()
+    room.serverd("limits", room.served, "spool-bytes", "1M")
+    for at in range(4):
+        with open(room.path(site, f"large-{at}"), "wb") as file:
+            file.write(os.urandom(24 << 20))
+    room.git(site, "add", ".")
+    room.git(site, "-c", "core.compression=0", "commit", "-q", "-m", "Large")
+    room.git(site, "config", "core.bigFileThreshold", "1m")
+    room.fails(site, "push", room.url(), "main", says="remote unpack failed: a limit is passed: this user's pushes have as many")
+    assert room.tenant_refs() == before

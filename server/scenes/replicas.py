@@ -24,7 +24,7 @@ TAKE_OVER = 3
 """After how many seconds of silence a replica takes over. Machines of tests are slow."""
 
 COPIED = ("pool", "log-place", "shard-2/pool", "shard-2/log-place", "places-log-place", "answers", "shard-2/answers", "access", "passwords",
-          "keys", "blocked", "limits", "hooks", "host_key", "host_key.pub")
+          "keys", "blocked", "limits", "hooks", "host_key", "host_key.pub", "host_key_ecdsa", "host_key_ecdsa.pub")
 """What docs/DEPLOY.md has an operator copy."""
 
 

@@ -62,9 +62,11 @@ type Use struct {
 	Out           *pktline.Writer
 }
 
-// Advertise writes what stands before the first request.
+// Advertise writes what stands before the first request. Where it fails before it has written anything, the client was told nothing.
 func (u Use) Advertise(ctx context.Context) error {
-	ctx = child.Charging(ctx, u.Meter.AddChild)
+	memory := u.memory()
+	defer memory.Free()
+	ctx = tenants.Counted(child.Charging(ctx, u.Meter.AddChild), memory)
 	if u.Service == ReceivePack {
 		return receivepack.Advertise(ctx, u.Tenant, u.Out, u.Version)
 	}
@@ -87,7 +89,8 @@ func (u Use) Serve(ctx context.Context, isStateless bool) error {
 	most := pack.Usual
 	most.MayGrow = u.mayGrow(spool)
 	most.PackBytes = u.Site.Limits.Get().RequestBytes
-	result, err := receivepack.Server{Folder: u.Site.Work, Limits: most, Lines: held, Lasts: u.tell}.Serve(ctx, u.Tenant, in, u.Out)
+	server := receivepack.Server{Folder: u.Site.Work, Limits: most, Lines: held, EndsItself: isStateless, Lasts: u.tell}
+	result, err := server.Serve(ctx, u.Tenant, in, u.Out)
 	if result.Failed != nil {
 		u.Site.Log.Printf("a push by %q to %s failed: %v", u.User, u.Tenant.Name(), result.Failed)
 	}
@@ -103,6 +106,8 @@ func (l lines) Hold(bytes int64) error { return told(l.Held.Hold(bytes)) }
 type fetch struct{ limits.Fetch }
 
 func (f fetch) Hold(bytes int64) error { return told(f.Fetch.Hold(bytes)) }
+
+func (f fetch) Share(list any, bytes int64) error { return told(f.Fetch.Share(list, bytes)) }
 
 // memory counts what a fetch holds that begins.
 func (u Use) memory() uploadpack.Memory { return fetch{u.Site.Limits.Fetch(u.User, u.Address)} }

@@ -738,6 +738,7 @@ func TestATenantInTwoShardsIsForTheOperator(t *testing.T) {
 	place := Folder(c.Store.Folder, from)
 	must(t, os.Rename(kept, filepath.Join(place, "pool")))
 	must(t, os.RemoveAll(filepath.Join(place, "journal")))
+	must(t, os.Remove(filepath.Join(place, "journal-begun")))
 	var two *TwoPlaces
 	if _, err := Open(c); !errors.As(err, &two) || two.Tenant != "a" {
 		t.Fatal(err)

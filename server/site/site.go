@@ -12,6 +12,7 @@ import (
 	"gitpoold/limits"
 	"gitpoold/logs"
 	"gitpoold/metrics"
+	"gitpoold/owners"
 	"gitpoold/tenants"
 )
 
@@ -30,6 +31,8 @@ type Site struct {
 	Limits  *limits.Limits
 	Log     *logs.Log
 	Metrics *metrics.Metrics
+	// Owners has who made each tenant; nil has nobody.
+	Owners *owners.Owners
 	// Daily counts what users take in a day; nil counts nothing.
 	Daily *daily.Ledger
 	// Hooks are told of pushes; nil has none.
@@ -72,10 +75,11 @@ func (s *Site) Open(user, tenant string, right access.Right) (tenants.Tenant, er
 			return tenants.Tenant{}, err
 		}
 	}
-	return s.Pool.Tenant(tenant)
+	opened, err := s.Pool.Tenant(tenant)
+	return opened.By(user), err
 }
 
-// lookEvery is how often the blocks are looked at for a user who is at work.
+// lookEvery is how often the blocks are looked at for all users who are at work.
 const lookEvery = 200 * time.Millisecond
 
 // Watch gives a context for a user who is at work on a tenant. Where the operator blocks one of the two, the context ends, and `cut` is called
@@ -91,7 +95,7 @@ func (s *Site) Watch(ctx context.Context, user, tenant string, right access.Righ
 				return
 			case <-ticker.C:
 			}
-			if err := s.Access.Blocked(user, tenant, right); err != nil {
+			if err := s.Access.BlockedWithin(lookEvery, user, tenant, right); err != nil {
 				cut(err)
 				stop()
 				return
@@ -99,6 +103,20 @@ func (s *Site) Watch(ctx context.Context, user, tenant string, right access.Righ
 		}
 	}()
 	return watched, stop
+}
+
+// Unread says why lists of the operator cannot be read, so that what was read before holds.
+func (s *Site) Unread() (all []error) {
+	of := []interface{ Unread() error }{s.Access, s.Limits}
+	if s.Hooks != nil {
+		of = append(of, s.Hooks)
+	}
+	for _, it := range of {
+		if err := it.Unread(); err != nil {
+			all = append(all, err)
+		}
+	}
+	return all
 }
 
 // Changed tells the log and the hooks which refs a user's push or stream changed.

@@ -4,6 +4,7 @@ import (
 	"context"
 	"crypto/ed25519"
 	"crypto/rand"
+	"errors"
 	"io"
 	"net"
 	"os"
@@ -69,7 +70,7 @@ func hosted(t *testing.T, limitLines string) guest {
 	ctx, stop := context.WithCancel(context.Background())
 	ended := make(chan error, 1)
 	s := &site.Site{Pool: tenants.New(slow{}, func(string) int64 { return 0 }), Access: who, Limits: bounds, Log: logs.New(io.Discard, metrics.New())}
-	go func() { ended <- sshd.Serve(ctx, bounds.ListenIdle(listener), s, newSigner(t)) }()
+	go func() { ended <- sshd.Serve(ctx, bounds.ListenIdle(listener), s, []ssh.Signer{newSigner(t)}) }()
 	t.Cleanup(func() {
 		stop()
 		check(t, <-ended)
@@ -280,5 +281,34 @@ func asBefore(t *testing.T, before int) {
 			text := make([]byte, 1<<20)
 			t.Fatalf("%d goroutines are left:\n%s", runtime.NumGoroutine()-before, text[:runtime.Stack(text, true)])
 		}
+	}
+}
+
+// TestARefusedClientMaySendItsRest has a client whose command is refused while it sends for more than a second, and which keeps its side open then.
+func TestARefusedClientMaySendItsRest(t *testing.T) {
+	it := hosted(t, "idle 30s\n")
+	client, err := ssh.Dial("tcp", it.address, it.config)
+	check(t, err)
+	defer client.Close()
+	session, err := client.NewSession()
+	check(t, err)
+	in, err := session.StdinPipe()
+	check(t, err)
+	check(t, session.Start("ls"))
+	for left := 20; left > 0; left-- {
+		_, err := in.Write(make([]byte, 32<<10))
+		check(t, err)
+		time.Sleep(100 * time.Millisecond)
+	}
+	ended := make(chan error, 1)
+	go func() { ended <- session.Wait() }()
+	select {
+	case err := <-ended:
+		var exit *ssh.ExitError
+		if !errors.As(err, &exit) || exit.ExitStatus() != 2 {
+			t.Fatal(err)
+		}
+	case <-time.After(20 * time.Second):
+		t.Fatal("the session is open still")
 	}
 }

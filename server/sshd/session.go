@@ -17,6 +17,7 @@ import (
 	"gitpoold/pktline"
 	"gitpoold/services"
 	"gitpoold/tenants"
+	"gitpoold/uploadpack"
 )
 
 // session is one command of a connection.
@@ -39,7 +40,7 @@ const (
 
 // serve takes requests up to the one for a command, and carries it out. It tells whether the connection is to end too, as soon as no session of it is
 // at work: a client that has not said in time what it wants may not heed that its channel is closed, and one that is no longer let in by what it
-// showed has to show something else.
+// showed, at the end of its command or before, has to show something else.
 func (s *session) serve(ctx context.Context, requests <-chan *ssh.Request) (ends bool) {
 	defer s.channel.Close()
 	late := time.NewTimer(s.Limits.Get().Handshake)
@@ -65,8 +66,7 @@ func (s *session) serve(ctx context.Context, requests <-chan *ssh.Request) (ends
 
 // carryOut carries out a command, or greets a user who wants a shell, and sends the status.
 func (s *session) carryOut(ctx context.Context, request *ssh.Request) (ends bool) {
-	shown := s.conn.Permissions.Extensions
-	isStill := s.Access.IsStill(s.user, shown[keyKey], shown[hashKey])
+	isStill := s.isStill()
 	reply(request, true)
 	status := uint32(failed)
 	switch {
@@ -81,7 +81,13 @@ func (s *session) carryOut(ctx context.Context, request *ssh.Request) (ends bool
 	if status != ended && request.Type != "shell" {
 		s.awaitEnd()
 	}
-	return !isStill
+	return !s.isStill()
+}
+
+// isStill tells whether what let the user in is the user's still.
+func (s *session) isStill() bool {
+	shown := s.conn.Permissions.Extensions
+	return s.Access.IsStill(s.user, shown[keyKey], shown[hashKey])
 }
 
 func reply(request *ssh.Request, ok bool) {
@@ -106,8 +112,11 @@ func (s *session) exit(status uint32) {
 	_, _ = s.channel.SendRequest("exit-status", false, payload[:])
 }
 
-// awaitEnd reads on, for a second at most, until the client ends its side. A git that writes to an ssh that has gone dies of SIGPIPE before it shows
-// what the server said. What a client sends after that second is dropped, and does not count: the connection ends as one without sessions.
+// quiet is how long a client may send nothing before it is taken for one that waits for the end of the session.
+const quiet = time.Second
+
+// awaitEnd reads on until the client ends its side, or has sent nothing for a second; within Idle in all. A git that writes to an ssh that has gone dies
+// of SIGPIPE before it shows what the server said. What comes then is dropped, and does not count: the connection ends as one without sessions.
 func (s *session) awaitEnd() {
 	_ = s.channel.CloseWrite()
 	from := s.channel
@@ -115,14 +124,41 @@ func (s *session) awaitEnd() {
 		from = idle.Channel
 	}
 	over := make(chan struct{})
-	go func() {
-		defer close(over)
-		_, _ = io.Copy(io.Discard, from)
-	}()
-	select {
-	case <-over:
-	case <-time.After(time.Second):
+	defer close(over)
+	late := time.NewTimer(s.Limits.Get().Idle)
+	defer late.Stop()
+	for come := reads(from, over); ; {
+		select {
+		case _, isOpen := <-come:
+			if !isOpen {
+				return
+			}
+		case <-time.After(quiet):
+			return
+		case <-late.C:
+			return
+		}
 	}
+}
+
+// reads tells of each part that comes from a client, which is dropped. It is closed when the client ends its side.
+func reads(from io.Reader, over <-chan struct{}) <-chan struct{} {
+	come := make(chan struct{})
+	go func() {
+		defer close(come)
+		part := make([]byte, 32<<10)
+		for {
+			if _, err := from.Read(part); err != nil {
+				return
+			}
+			select {
+			case come <- struct{}{}:
+			case <-over:
+				return
+			}
+		}
+	}()
+	return come
 }
 
 // terminal is where the user sees sentences. The client has to take each within the time that it may take nothing.
@@ -148,6 +184,9 @@ func (s *session) run(ctx context.Context, payload []byte) uint32 {
 	}
 	if it, ok := parseVerb(exec.Command); ok {
 		return s.runVerb(ctx, it)
+	}
+	if isLFS(exec.Command) {
+		return s.say(services.NoLFS)
 	}
 	service, path, ok := parseCommand(exec.Command)
 	if !ok {
@@ -240,6 +279,7 @@ func (s *session) use(service string, t tenants.Tenant, meter *daily.Meter, reco
 
 func (s *session) service(ctx context.Context, use services.Use) error {
 	if err := use.Advertise(ctx); err != nil {
+		s.say(uploadpack.Sentence(err))
 		return err
 	}
 	return use.Serve(ctx, false)
@@ -263,6 +303,12 @@ func parseCommand(command string) (service, path string, ok bool) {
 		}
 	}
 	return "", "", false
+}
+
+// isLFS tells whether a client of Git LFS asks for its ways to send and fetch files.
+func isLFS(command string) bool {
+	name, _, _ := strings.Cut(command, " ")
+	return name == "git-lfs-authenticate" || name == "git-lfs-transfer"
 }
 
 // unquote reads one word: parts between single quotes, and between them \' and \!. A word of plain letters needs no quotes.

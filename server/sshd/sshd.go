@@ -27,7 +27,7 @@ type server struct {
 
 // Serve answers connections until ctx is done. Then it takes no more, lets those sessions end that have begun, for a while, and
 // returns.
-func Serve(ctx context.Context, listener net.Listener, s *site.Site, hostKey ssh.Signer) error {
+func Serve(ctx context.Context, listener net.Listener, s *site.Site, hostKeys []ssh.Signer) error {
 	it := &server{Site: s, stopping: ctx.Done()}
 	sessions, stop := context.WithCancel(context.Background())
 	defer stop()
@@ -48,7 +48,7 @@ func Serve(ctx context.Context, listener net.Listener, s *site.Site, hostKey ssh
 			return err
 		}
 		it.running.Add(1)
-		go it.connection(sessions, c, hostKey)
+		go it.connection(sessions, c, hostKeys)
 	}
 }
 
@@ -84,8 +84,16 @@ func permissions(user, by, what string) *ssh.Permissions {
 
 var errDenied = errors.New("denied")
 
-func (s *server) config(ctx context.Context, hostKey ssh.Signer) *ssh.ServerConfig {
+// What a connection is encrypted and checked by: ciphers and codes that are safe with a client that has no strict key exchange, or with an older library
+// of ssh that has none. An older library leaves out the ciphers that it does not know.
+var (
+	ciphers = []string{"aes128-gcm@openssh.com", "aes256-gcm@openssh.com", "aes128-ctr", "aes192-ctr", "aes256-ctr"}
+	codes   = []string{"hmac-sha2-256"}
+)
+
+func (s *server) config(ctx context.Context, hostKeys []ssh.Signer) *ssh.ServerConfig {
 	config := &ssh.ServerConfig{
+		Config:        ssh.Config{Ciphers: ciphers, MACs: codes},
 		MaxAuthTries:  6,
 		ServerVersion: "SSH-2.0-gitpoold",
 		PublicKeyCallback: func(c ssh.ConnMetadata, key ssh.PublicKey) (*ssh.Permissions, error) {
@@ -105,7 +113,9 @@ func (s *server) config(ctx context.Context, hostKey ssh.Signer) *ssh.ServerConf
 			return permissions(c.User(), hashKey, hash), nil
 		},
 	}
-	config.AddHostKey(hostKey)
+	for _, key := range hostKeys {
+		config.AddHostKey(key)
+	}
 	return config
 }
 
@@ -118,11 +128,12 @@ func host(address net.Addr) string {
 }
 
 // connection serves one connection: who it is has to be shown within the time for handshakes.
-func (s *server) connection(ctx context.Context, c net.Conn, hostKey ssh.Signer) {
+func (s *server) connection(ctx context.Context, socket net.Conn, hostKeys []ssh.Signer) {
+	c := newPace(socket)
 	defer s.running.Done()
 	defer c.Close()
 	timer := time.AfterFunc(s.Limits.Get().Handshake, func() { c.Close() })
-	conn, channels, requests, err := ssh.NewServerConn(c, s.config(ctx, hostKey))
+	conn, channels, requests, err := ssh.NewServerConn(c, s.config(ctx, hostKeys))
 	if !timer.Stop() || err != nil {
 		return
 	}
@@ -131,11 +142,11 @@ func (s *server) connection(ctx context.Context, c net.Conn, hostKey ssh.Signer)
 	done := make(chan struct{})
 	defer close(done)
 	go s.keepAlive(conn, done)
-	s.sessions(ctx, conn, channels)
+	s.sessions(ctx, conn, c, channels)
 }
 
 // sessions serves the channels of a connection, so many at once.
-func (s *server) sessions(ctx context.Context, conn *ssh.ServerConn, channels <-chan ssh.NewChannel) {
+func (s *server) sessions(ctx context.Context, conn *ssh.ServerConn, pace *pace, channels <-chan ssh.NewChannel) {
 	var running sync.WaitGroup
 	var isToEnd atomic.Bool
 	places := make(chan struct{}, mostSessions)
@@ -150,7 +161,7 @@ func (s *server) sessions(ctx context.Context, conn *ssh.ServerConn, channels <-
 			continue
 		}
 		idle.Stop()
-		channel = &patient{channel, s.Limits, func() { conn.Close() }}
+		channel = &patient{&paced{channel, pace}, s.Limits, func() { conn.Close() }}
 		running.Add(1)
 		go func() {
 			defer running.Done()

@@ -87,7 +87,7 @@ func (r *room) start(program string) {
 	s := &site.Site{Pool: tenants.New(r.pool, bounds.Quota), Access: who, Limits: bounds, Log: log}
 	ctx, stop := context.WithCancel(context.Background())
 	ended := make(chan error)
-	go func() { ended <- Serve(ctx, bounds.ListenIdle(listener), s, newKey(r.t)) }()
+	go func() { ended <- Serve(ctx, bounds.ListenIdle(listener), s, []ssh.Signer{newKey(r.t)}) }()
 	r.stop = func() {
 		stop()
 		must(r.t, <-ended)

@@ -139,7 +139,18 @@ func (s *session) streams(t tenants.Tenant, in *received, record *logs.Request) 
 	cut := func() { s.conn.Close() }
 	out := inParts{services.Counting{To: s.channel, Count: &record.Out, Meter: in.meter}, s.Limits.Get().Idle, cut}
 	return streams.Use{Site: s.Site, User: s.user, Address: s.address, Tenant: t, Meter: in.meter, In: in, Out: out, Tell: s.tell,
-		IsThere: s.isThere, Cut: cut, Stopping: s.stopping}
+		IsThere: s.isThere, Cut: cut, Stopping: s.stopping, IsLetIn: s.isLetIn}
+}
+
+// errGone is the refusal of a user whose key or password was taken back, or replaced, while the session lasts.
+const errGone = limits.Passed("the key or the password that let you in is no longer valid; log in again")
+
+// isLetIn asks again whether the user would be let in by the same key or password.
+func (s *session) isLetIn() error {
+	if !s.isStill() {
+		return errGone
+	}
+	return nil
 }
 
 // received counts what comes, which is read in the background, and may be after the session.

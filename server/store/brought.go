@@ -120,7 +120,7 @@ func (s *Store) mergeBrought() (digest journal.Digest, err error) {
 
 // exchangeFollowed puts a child on the merged pool file in the place of the one before. There are no streams.
 func (s *Store) exchangeFollowed(r *replay) error {
-	next, err := s.startOn(s.folder("pool"))
+	next, err := s.startOn(s.pool)
 	if err != nil {
 		return err
 	}

@@ -15,14 +15,14 @@ func Create(folder, program string) error {
 		return err
 	}
 	pool := filepath.Join(folder, "pool")
-	if _, err := os.Stat(pool); err == nil {
+	if _, err := os.Lstat(pool); err == nil {
 		return nil
 	}
-	segments, err := os.ReadDir(filepath.Join(folder, "journal"))
+	hasJournal, err := hasFiles(folder)
 	if err != nil {
 		return err
 	}
-	if _, err := os.Stat(filepath.Join(folder, placeName)); len(segments) > 0 || err == nil {
+	if _, err := os.Stat(filepath.Join(folder, placeName)); hasJournal || err == nil {
 		return errors.New("there is a journal and no pool file: put the pool file back from a backup")
 	}
 	command := exec.Command(program, "serve", "--pool", pool)

@@ -342,7 +342,7 @@ func (s *Store) TakeOver(silence time.Duration) error {
 	if !s.isFollowing() {
 		return nil
 	}
-	digest, err := poolfile.Digest(s.folder("pool"))
+	digest, err := poolfile.Digest(s.pool)
 	if err == nil {
 		err = f.log.TakeOver(journal.Digest(digest), silence)
 	}

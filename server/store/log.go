@@ -18,9 +18,11 @@ import (
 // What a store does so that its journal can be in Redis stands in this file.
 
 const (
-	// placeName is the file of the place in the log, and rescuedName that of the pool as it was when the log lost records.
+	// placeName is the file of the place in the log, and rescuedName that of the pool as it was when the log lost records. begunName says of a
+	// journal in files that it has begun.
 	placeName   = "log-place"
 	rescuedName = "pool.rescued"
+	begunName   = "journal-begun"
 )
 
 // openJournal opens the journal where the configuration says that it is, unless it is elsewhere.
@@ -28,7 +30,7 @@ func (s *Store) openJournal(pool journal.Digest) error {
 	if s.config.Log == nil {
 		return s.openFiles(pool)
 	}
-	if has, err := hasFiles(s.folder("journal")); err != nil || has {
+	if has, err := hasFiles(s.config.Folder); err != nil || has {
 		if err == nil {
 			err = errors.New("the journal of this folder is in files; `gitpoold init DIR --log ADDRESS` moves it")
 		}
@@ -50,42 +52,51 @@ func (s *Store) openFiles(pool journal.Digest) error {
 	if _, err := os.Stat(s.folder(placeName)); !errors.Is(err, os.ErrNotExist) {
 		return fmt.Errorf("the journal of this folder is in Redis: give --log, or remove %s if the pool file has all of it", s.folder(placeName))
 	}
-	opened, err := journal.Open(s.folder("journal"), pool, s.config.Tell)
+	opened, err := journal.OpenBegun(s.folder("journal"), s.folder(begunName), pool, s.config.Tell)
 	if err == nil {
 		s.journal = opened
 	}
 	return err
 }
 
+// hasFiles tells whether the journal of a folder is in files, or was.
 func hasFiles(folder string) (bool, error) {
-	entries, err := os.ReadDir(folder)
+	if _, err := os.Lstat(filepath.Join(folder, begunName)); err == nil {
+		return true, nil
+	}
+	entries, err := os.ReadDir(filepath.Join(folder, "journal"))
 	return len(entries) > 0, err
 }
 
 // CreateLog begins a log in Redis for the pool file of a folder, unless there is one. A journal in files has to be empty, and is removed.
 func CreateLog(folder string, options journal.Options) error {
-	held, err := lockAll(folder)
+	pool, err := poolfile.Find(filepath.Join(folder, "pool"))
+	if err != nil {
+		return err
+	}
+	held, err := lockAll(folder, pool)
 	if err != nil {
 		return err
 	}
 	defer held.close()
-	digest, err := poolfile.Digest(filepath.Join(folder, "pool"))
+	digest, err := poolfile.Digest(pool)
 	if err != nil {
 		return err
 	}
-	if err := removeFiles(filepath.Join(folder, "journal"), digest); err != nil {
+	if err := removeFiles(folder, digest); err != nil {
 		return err
 	}
 	options.Place = filepath.Join(folder, placeName)
 	return journal.CreateRedis(options, digest)
 }
 
-// removeFiles removes the segments of a journal that has no steps.
+// removeFiles removes the segments of a folder's journal that has no steps.
 func removeFiles(folder string, pool journal.Digest) error {
 	if has, err := hasFiles(folder); err != nil || !has {
 		return err
 	}
-	files, err := journal.Open(folder, pool, func(string, ...any) {})
+	segments, begun := filepath.Join(folder, "journal"), filepath.Join(folder, begunName)
+	files, err := journal.OpenBegun(segments, begun, pool, func(string, ...any) {})
 	if err != nil {
 		return err
 	}
@@ -93,10 +104,13 @@ func removeFiles(folder string, pool journal.Digest) error {
 	if files.HasSteps() {
 		return errors.New("the journal in files has pushes that the pool file has not: start the server without --log and stop it by SIGTERM first")
 	}
-	entries, err := os.ReadDir(folder)
+	if err := os.Remove(begun); err != nil {
+		return err
+	}
+	entries, err := os.ReadDir(segments)
 	for _, it := range entries {
 		if err == nil {
-			err = os.Remove(filepath.Join(folder, it.Name()))
+			err = os.Remove(filepath.Join(segments, it.Name()))
 		}
 	}
 	return err
@@ -198,7 +212,7 @@ func (s *Store) copyPool() error {
 	if s.config.Copy == "" {
 		return nil
 	}
-	err := copySynced(s.folder("pool"), s.config.Copy)
+	err := copySynced(s.pool, s.config.Copy)
 	s.isCopyLate.Store(err != nil)
 	if err != nil {
 		return fmt.Errorf("%s: %w", s.config.Copy, err)
@@ -217,7 +231,7 @@ func (s *Store) BringCopy(ctx context.Context) error {
 }
 
 func (s *Store) bringCopy() error {
-	pool, err := poolfile.Digest(s.folder("pool"))
+	pool, err := poolfile.Digest(s.pool)
 	if err != nil || s.config.Copy == "" {
 		return err
 	}

@@ -2,6 +2,8 @@ package store
 
 import (
 	"errors"
+	"os"
+	"path/filepath"
 	"testing"
 
 	"gitpoold/answers"
@@ -123,6 +125,44 @@ func TestCheckpointsOfALostStreamAreSaved(t *testing.T) {
 	s = opened(t, c)
 	defer s.Close(background)
 	hasMessages(t, s, "a", "refs/heads/main", []string{"m0", "m1"})
+}
+
+// TestAJournalThatWasDeleted has pushes in a journal whose segments, or whose folder, somebody deletes: no start takes that for a new folder.
+func TestAJournalThatWasDeleted(t *testing.T) {
+	c := plain(t, folder(t))
+	s := opened(t, c)
+	pushAll(t, s, "m0")
+	crash(s)
+	segments, aside := filepath.Join(c.Folder, "journal"), filepath.Join(c.Folder, "aside")
+	must(t, os.Rename(segments, aside))
+	for _, isThere := range []bool{false, true} {
+		if isThere {
+			must(t, os.MkdirAll(segments, 0o700))
+		}
+		var damaged *journal.Damaged
+		if _, err := Open(c); !errors.As(err, &damaged) {
+			t.Fatalf("the push is lost without a word: %v", err)
+		}
+		if err := CreateLog(c.Folder, journal.Options{}); !errors.As(err, &damaged) {
+			t.Fatal(err)
+		}
+	}
+	must(t, os.Rename(filepath.Join(c.Folder, "pool"), filepath.Join(c.Folder, "pool.aside")))
+	if err := Create(c.Folder, c.Program); err == nil {
+		t.Fatal("another pool is made")
+	}
+	must(t, os.Rename(filepath.Join(c.Folder, "pool.aside"), filepath.Join(c.Folder, "pool")))
+	must(t, os.Remove(segments))
+	must(t, os.Rename(aside, segments))
+	s = opened(t, c)
+	hasMessages(t, s, "a", "refs/heads/main", []string{"m0"})
+	must(t, s.Close(background))
+	// The pool file alone is a backup.
+	restored := plain(t, folder(t))
+	copied(t, filepath.Join(c.Folder, "pool"), restored.Folder)
+	s = opened(t, restored)
+	defer s.Close(background)
+	hasMessages(t, s, "a", "refs/heads/main", []string{"m0"})
 }
 
 // untold has a stream with a token whose End is in the journal and with the child, and of which nobody was told.

@@ -38,7 +38,7 @@ func (s *Store) Extract(ctx context.Context, tenant, to string) error {
 	from := filepath.Join(s.work(), "extracted")
 	err := os.RemoveAll(from)
 	if err == nil {
-		err = linkOrCopy(s.folder("pool"), from)
+		err = linkOrCopy(s.pool, from)
 	}
 	s.endMaintenance()
 	if err != nil {
@@ -217,7 +217,7 @@ func (s *Store) putInPlace(merged string, next started) error {
 	_, _ = sendAndWait(context.Background(), old.process, frames.Step{Kind: frames.Sizes})
 	old.end()
 	if err == nil {
-		err = syncFolder(s.config.Folder)
+		err = syncFolder(filepath.Dir(s.pool))
 	}
 	if err != nil {
 		return err
@@ -256,7 +256,7 @@ func (s *Store) exchange(merged string, next started) (old started, err error) {
 	}
 	faultpoint.Here("before a merged pool file is renamed")
 	if err == nil {
-		err = os.Rename(merged, s.folder("pool"))
+		err = s.placePool(merged)
 	}
 	if err != nil {
 		next.end()

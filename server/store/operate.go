@@ -1,12 +1,9 @@
 package store
 
 import (
-	"bytes"
 	"context"
 	"encoding/binary"
-	"fmt"
 
-	"gitpoold/child"
 	"gitpoold/faultpoint"
 	"gitpoold/frames"
 	"gitpoold/journal"
@@ -107,36 +104,4 @@ func (s *Store) takeRequestBack(number uint64, refused error) error {
 		return ErrUnknown
 	}
 	return refused
-}
-
-// Size is what a tenant has at its last checkpoint: how many objects and refs, the bytes of their contents, whoever else has them too,
-// and the bytes that no other tenant has.
-type Size struct{ Objects, Bytes, Own, Refs int64 }
-
-// readSizes asks the child what each tenant has. Nobody else uses the process meanwhile, or the gate `steps` is shut.
-func (s *Store) readSizes(process *child.Process) error {
-	reply, err := s.requestOf(process, frames.Step{Kind: frames.Sizes})
-	if err != nil {
-		return err
-	}
-	sizes := map[string]Size{}
-	for _, line := range bytes.Split(bytes.TrimSuffix(reply, []byte("\n")), []byte("\n")) {
-		var name string
-		var it Size
-		if len(line) == 0 {
-			continue
-		}
-		_, err := fmt.Sscanf(string(line), "%s objects %d bytes %d own %d refs %d", &name, &it.Objects, &it.Bytes, &it.Own, &it.Refs)
-		if err != nil {
-			return fmt.Errorf("the child tells sizes in a line %q: %w", line, err)
-		}
-		sizes[name] = it
-	}
-	s.mutex.Lock()
-	defer s.mutex.Unlock()
-	s.sizes, s.since, s.total = sizes, map[string]int64{}, 0
-	for _, it := range sizes {
-		s.total += it.Bytes
-	}
-	return nil
 }

@@ -255,9 +255,8 @@ func TestAnOtherPoolFileIsCopied(t *testing.T) {
 		if err := os.WriteFile(c.Copy, []byte("an older pool file of another length"), 0o600); err != nil {
 			t.Fatal(err)
 		}
-		if err := os.RemoveAll(filepath.Join(c.Folder, "journal")); err != nil {
-			t.Fatal(err)
-		}
+		must(t, os.RemoveAll(filepath.Join(c.Folder, "journal")))
+		must(t, os.RemoveAll(filepath.Join(c.Folder, begunName)))
 		copied(t, filepath.Join(from.Folder, "pool"), c.Folder)
 		s = opened(t, c)
 		if err := bring(s); err != nil {

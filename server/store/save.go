@@ -7,6 +7,7 @@ import (
 	"os"
 	"path/filepath"
 	"sort"
+	"syscall"
 	"time"
 
 	"gitpoold/child"
@@ -104,16 +105,34 @@ func (s *Store) copyAndDrop() error {
 // renamePool makes the pool file that the child has written the one of this store.
 func (s *Store) renamePool() error {
 	faultpoint.Here("before the pool file is renamed")
-	if err := os.Rename(filepath.Join(s.work(), "pool"), s.folder("pool")); err != nil {
+	if err := s.placePool(filepath.Join(s.work(), "pool")); err != nil {
 		return err
 	}
 	faultpoint.Here("after the pool file is renamed")
-	if err := syncFolder(s.config.Folder); err != nil {
+	if err := syncFolder(filepath.Dir(s.pool)); err != nil {
 		return err
 	}
 	faultpoint.Here("after the pool file is synced")
 	return nil
 }
+
+// placePool puts a file in the place of the pool file, in one step. A link in the folder may lead to another file system.
+func (s *Store) placePool(from string) error {
+	err := os.Rename(from, s.pool)
+	if !errors.Is(err, syscall.EXDEV) {
+		return err
+	}
+	if err := os.RemoveAll(s.besidePool()); err != nil {
+		return err
+	}
+	if err := copyFile(from, s.besidePool()); err != nil {
+		return err
+	}
+	return os.Rename(s.besidePool(), s.pool)
+}
+
+// besidePool is where a pool file is on its way to another file system. A start removes what a kill has left there.
+func (s *Store) besidePool() string { return s.pool + ".next" }
 
 // writeAndBegin has the child write the pool file, and begins the segment of what comes after it. No step comes in between, so what is in
 // the file and what is in the segment are parted for all tenants at one place. The child answers nobody while it writes; a second one may.

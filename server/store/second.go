@@ -109,7 +109,7 @@ func (s *Store) isLarge() bool {
 		return false
 	}
 	least := s.config.SecondChild()
-	info, err := os.Stat(s.folder("pool"))
+	info, err := os.Stat(s.pool)
 	return least > 0 && err == nil && info.Size()+s.journal.Bytes() >= least
 }
 
@@ -153,7 +153,7 @@ func (it *second) start() (err error) {
 		return err
 	}
 	s := it.store
-	if it.process, it.room, err = s.startChild(s.folder("pool"), it.said); err != nil {
+	if it.process, it.room, err = s.startChild(s.pool, it.said); err != nil {
 		return err
 	}
 	faultpoint.SetSecond(it.process.Pid())
@@ -191,7 +191,7 @@ func (it *second) within(ctx context.Context, most time.Duration, do func() erro
 // prepare loads the pool file, and carries the journal out until little of it is left.
 func (it *second) prepare() error {
 	s := it.store
-	digest, err := poolfile.Digest(s.folder("pool"))
+	digest, err := poolfile.Digest(s.pool)
 	if err != nil {
 		return err
 	}

@@ -28,12 +28,12 @@ func (s *Store) start() error {
 		s.follower.turn.Lock()
 		defer s.follower.turn.Unlock()
 	}
-	digest, err := poolfile.Digest(s.folder("pool"))
+	digest, err := poolfile.Digest(s.pool)
 	if err != nil {
 		return err
 	}
 	said := &lines{tell: s.config.Tell}
-	process, room, err := s.startChild(s.folder("pool"), said)
+	process, room, err := s.startChild(s.pool, said)
 	if err != nil {
 		return err
 	}
@@ -264,8 +264,8 @@ func (s *Store) carryOut(process *child.Process, room string, pool journal.Diges
 		answers[record.Number] = answer
 		tokens.answered(record.Step, answer)
 	}
-	// It is answered when the child has loaded the pool file.
-	if err := s.readSizes(process); err != nil {
+	// It is answered when the child has loaded the pool file. What tenants have, the child before has told: the journal has more than the file.
+	if _, err := s.requestOf(process, frames.Step{Kind: frames.Sizes}); err != nil {
 		return err
 	}
 	if err := s.journal.Records(pool, tokens.before(r.take)); err != nil {

@@ -71,7 +71,9 @@ type Config struct {
 
 // Store is one pool. Its methods may be called by many goroutines at once.
 type Store struct {
-	config   Config
+	config Config
+	// pool is the path of the pool file, where a link in the folder leads to one elsewhere.
+	pool     string
 	locks    locks
 	journal  journal.Journal
 	follower *follower
@@ -106,6 +108,7 @@ type Store struct {
 	open   map[string]*Stream
 	ends   map[uint64]end
 	sizes  map[string]Size
+	refs   map[string]refSize
 	since  map[string]int64
 	total  int64
 	counts Counts
@@ -126,11 +129,15 @@ type Counts struct {
 
 // Open takes a pool up: it reads the journal through, starts the child, and carries out what the pool file has not.
 func Open(config Config) (*Store, error) {
-	held, err := lockAll(config.Folder)
+	pool, err := poolfile.Find(filepath.Join(config.Folder, "pool"))
 	if err != nil {
 		return nil, err
 	}
-	s := &Store{config: config, locks: held, maintain: make(chan struct{}, 1), wanted: make(chan struct{}, 1),
+	held, err := lockAll(config.Folder, pool)
+	if err != nil {
+		return nil, err
+	}
+	s := &Store{config: config, pool: pool, locks: held, maintain: make(chan struct{}, 1), wanted: make(chan struct{}, 1),
 		stopping: make(chan struct{}), closing: make(chan struct{}), rescuing: make(chan struct{}), steps: newGate(), streams: newGate(),
 		open: map[string]*Stream{}, ends: map[uint64]end{}}
 	if err := s.begin(); err != nil {
@@ -152,11 +159,14 @@ func (s *Store) begin() error {
 	if err := dropUnfinished(s.folder(rescuedName)); err != nil {
 		return err
 	}
-	digest, err := poolfile.Digest(s.folder("pool"))
+	if err := os.RemoveAll(s.besidePool()); err != nil {
+		return err
+	}
+	digest, err := poolfile.Digest(s.pool)
 	if err != nil {
 		return err
 	}
-	if s.answers, err = answers.Open(s.config.Folder); err != nil {
+	if s.answers, err = answers.Open(s.config.Folder, s.config.Tell); err != nil {
 		return err
 	}
 	if err := s.openJournal(digest); err != nil {
@@ -176,20 +186,29 @@ func (s *Store) folder(name string) string { return filepath.Join(s.config.Folde
 
 func (s *Store) work() string { return s.folder("work") }
 
-// locks keep others out for as long as they are open: a second server of the folder, and a run of the program on its pool file.
-type locks struct{ folder, pool *os.File }
+// locks keep others out for as long as they are open: a second server of the folder, and a run of the program on its pool file, by the name that it
+// has in the folder and by the one to which a link leads.
+type locks struct{ folder, pool, linked *os.File }
 
-func lockAll(folder string) (locks, error) {
-	first, err := lockFile(filepath.Join(folder, "lock"))
-	if err != nil {
+func lockAll(folder, pool string) (l locks, err error) {
+	if l.folder, err = lockFile(filepath.Join(folder, "lock")); err != nil {
 		return locks{}, fmt.Errorf("%s: %w", folder, err)
 	}
-	second, err := lockFile(filepath.Join(folder, "pool.new"))
-	if err != nil {
-		first.Close()
-		return locks{}, fmt.Errorf("%s/pool: %w", folder, err)
+	named := filepath.Join(folder, "pool")
+	if l.pool, err = lockFile(named + ".new"); err == nil && !isSameFolder(pool, named) {
+		l.linked, err = lockFile(pool + ".new")
 	}
-	return locks{first, second}, nil
+	if err != nil {
+		l.close()
+		return locks{}, fmt.Errorf("%s: %w", named, err)
+	}
+	return l, nil
+}
+
+// isSameFolder tells whether two paths have the same name in the same folder, whatever that folder is called.
+func isSameFolder(one, other string) bool {
+	real, err := filepath.EvalSymlinks(filepath.Dir(other))
+	return err == nil && one == filepath.Join(real, filepath.Base(other))
 }
 
 // lockWait is how long a lock is waited for. A server that is killed while it starts a process leaves its locks to that process, which has them
@@ -225,8 +244,12 @@ func tryLockFile(path string) (*os.File, error) {
 }
 
 func (l locks) close() {
-	os.Remove(l.pool.Name())
-	l.pool.Close()
+	for _, it := range []*os.File{l.linked, l.pool} {
+		if it != nil {
+			os.Remove(it.Name())
+			it.Close()
+		}
+	}
 	l.folder.Close()
 }
 

@@ -64,6 +64,7 @@ func crash(s *Store) {
 	s.journal.Close()
 	// A process that is killed leaves the name of the lock file.
 	s.locks.pool.Close()
+	s.locks.linked.Close()
 	s.locks.folder.Close()
 }
 

@@ -5,6 +5,7 @@ import (
 	"errors"
 	"sync"
 	"sync/atomic"
+	"time"
 
 	"gitpoold/answers"
 	"gitpoold/child"
@@ -38,6 +39,8 @@ type Stream struct {
 	isClosed bool
 	// kept is what the stream was answered before its End, if that is to be kept.
 	kept *answers.Answer
+	// These are what the child took for the stream, if its form is Checkpoints, and its memory at the last answer.
+	took, grown, resident atomic.Int64
 
 	// These are set inside the gate `steps`, and read while it is shut: the child that has the stream, the number of its Open in the
 	// journal, and how often the journal had lost records before.
@@ -174,8 +177,75 @@ func (st *Stream) Feed(ctx context.Context, body []byte) (Pending, error) {
 	}
 	st.fed += int64(len(body))
 	st.store.taken.Add(1)
-	batch, err := st.process.Send(child.Endless(ctx), child.Short, step)
+	batch, err := st.process.Send(st.endless(ctx), child.Short, step)
 	return Pending{batch, st}, err
+}
+
+// endless gives a context that never ends, for steps of the stream. What a Whole stream brings was bounded before.
+func (st *Stream) endless(ctx context.Context) context.Context {
+	ctx = child.Endless(ctx)
+	if st.form == Whole {
+		return ctx
+	}
+	return child.Measuring(ctx, func(cost child.Cost) {
+		st.took.Add(int64(cost.Took))
+		st.grown.Add(cost.Grown)
+		st.resident.Store(cost.Resident)
+	})
+}
+
+// Cost gives what the child took for the pieces that were answered, and for the End.
+func (st *Stream) Cost() child.Cost {
+	return child.Cost{Took: time.Duration(st.took.Load()), Grown: st.grown.Load(), Resident: st.resident.Load()}
+}
+
+// besideContents is what the child has for each object beside its contents, and besideNames what a tenant has for one that another has too.
+const (
+	besideContents = 200
+	besideNames    = 28
+)
+
+// Spare is how much memory the child has, about, beside what tenants have: it was freed, and who takes it does not let the child grow.
+func (st *Stream) Spare() int64 {
+	spare := st.process.Resident()
+	s := st.store
+	s.mutex.Lock()
+	defer s.mutex.Unlock()
+	shared := int64(0)
+	for _, size := range s.sizes {
+		spare -= size.Own + besideNames*size.Objects
+		if size.Bytes > 0 {
+			spare -= int64(besideContents * float64(size.Objects) * float64(size.Own) / float64(size.Bytes))
+		}
+		if size.Bytes-size.Own > shared {
+			shared = size.Bytes - size.Own
+		}
+	}
+	for _, since := range s.since {
+		spare -= since
+	}
+	if spare -= shared; spare < 0 {
+		return 0
+	}
+	return spare
+}
+
+// Recount asks the child what tenants have at their last checkpoints, for Bytes. It waits for its turn as long as the context lasts. The stream may
+// be open or not.
+func (st *Stream) Recount(ctx context.Context) error {
+	s := st.store
+	if s.isClosing() {
+		return ErrClosed
+	}
+	if err := s.beginMaintenance(ctx); err != nil {
+		return err
+	}
+	defer s.endMaintenance()
+	if err := s.steps.shut(ctx); err != nil {
+		return err
+	}
+	defer s.steps.open()
+	return s.readSizes(s.process)
 }
 
 // enter goes in where the stream is open and its child is the one that there is.
@@ -300,7 +370,7 @@ func (st *Stream) sendEnd(ctx context.Context, last []byte) (sentEnd, error) {
 	outcome := s.expect(number, end{tenant: st.tenant})
 	s.taken.Add(int64(len(steps)))
 	faultpoint.Here("before the end is sent")
-	batch, err := st.process.Send(child.Endless(ctx), child.Short, steps...)
+	batch, err := st.process.Send(st.endless(ctx), child.Short, steps...)
 	if err != nil {
 		batch = child.Lost(err)
 	}
@@ -335,6 +405,17 @@ func (s *Store) noteGivenUp(tenant string) {
 	}
 }
 
+// tellingGrowth is how much more than its bytes a stream takes of the child's memory where that says something.
+const tellingGrowth = 1 << 20
+
+// brought is how much the stream may have left: its bytes, or as much as the child's memory grew by, where few bytes have written many.
+func (st *Stream) brought() int64 {
+	if grown := st.grown.Load(); grown > st.fed+tellingGrowth {
+		return grown
+	}
+	return st.fed
+}
+
 // close lets the tenant have another stream.
 func (st *Stream) close(well bool) {
 	s := st.store
@@ -347,8 +428,8 @@ func (st *Stream) close(well bool) {
 		s.counts.Refused++
 	}
 	if well || st.form == Checkpoints {
-		s.since[st.tenant] += st.fed
-		s.total += st.fed
+		s.since[st.tenant] += st.brought()
+		s.total += st.brought()
 	}
 	s.mutex.Unlock()
 	s.streams.leave()

@@ -103,9 +103,17 @@ func (f *framed) carryOut(ctx context.Context, step frames.Step) (frames.Answer,
 	return carry(ctx, step.Body)
 }
 
-// ask asks again whether the user may read: a session may last for long.
+// mayStill asks again whether the user is let in and has a right: a session may last for long.
+func (f *framed) mayStill(right access.Right) error {
+	if err := f.IsLetIn(); err != nil {
+		return err
+	}
+	_, err := f.Site.Open(f.User, f.Tenant.Name(), right)
+	return err
+}
+
 func (f *framed) ask(ctx context.Context, query []byte) (frames.Answer, error) {
-	if _, err := f.Site.Open(f.User, f.Tenant.Name(), access.Read); err != nil {
+	if err := f.mayStill(access.Read); err != nil {
 		return frames.Answer{}, err
 	}
 	return f.question(ctx, query)
@@ -115,7 +123,7 @@ func (f *framed) open(ctx context.Context, _ []byte) (frames.Answer, error) {
 	if f.stream != nil || f.dead != nil {
 		return frames.Answer{}, tenants.Fault{Number: 31}
 	}
-	if _, err := f.Site.Open(f.User, f.Tenant.Name(), access.Write); err != nil {
+	if err := f.mayStill(access.Write); err != nil {
 		return frames.Answer{}, err
 	}
 	stream, _, err := f.Use.open(ctx, "")

@@ -1,12 +1,13 @@
 package streams
 
 import (
-	"bytes"
 	"context"
 	"time"
 
 	"gitpoold/access"
 	"gitpoold/answers"
+	"gitpoold/child"
+	"gitpoold/fastimport"
 	"gitpoold/frames"
 	"gitpoold/hooks"
 	"gitpoold/limits"
@@ -19,12 +20,17 @@ const openPatience = 5 * time.Second
 // stream is a stream that is open, with what its limits count.
 type stream struct {
 	Use
-	inner  *tenants.FrameStream
-	until  time.Time
-	most   int64
-	room   int64
-	taken  int64
-	answer answers.Answer
+	inner *tenants.FrameStream
+	until time.Time
+	most  int64
+	taken int64
+	// journaled is how much of the journal the stream takes.
+	journaled int64
+	reader    *fastimport.Reader
+	pace      pace
+	growth    growth
+	counted   child.Cost
+	answer    answers.Answer
 	// blocked has the refusal where the user or the tenant is blocked meanwhile.
 	blocked chan error
 	over    chan struct{}
@@ -38,7 +44,7 @@ func (u Use) open(ctx context.Context, token string) (*stream, *answers.Answer, 
 	if kept := u.Tenant.Kept(token); kept != nil {
 		return nil, kept, nil
 	}
-	room, err := u.Tenant.Room()
+	_, err := u.Tenant.Room()
 	if err == nil {
 		err = u.mayGoOn()
 	}
@@ -56,9 +62,18 @@ func (u Use) open(ctx context.Context, token string) (*stream, *answers.Answer, 
 		leave()
 		return nil, kept, err
 	}
+	// The stream may have waited for others, which took of the room.
+	room, err := u.Tenant.Room()
+	if err != nil {
+		leave()
+		inner.GiveUp()
+		return nil, nil, err
+	}
 	values := u.Site.Limits.Get()
-	s := &stream{Use: u, inner: inner, until: time.Now().Add(values.StreamAge), most: values.StreamBytes, room: room,
+	s := &stream{Use: u, inner: inner, until: time.Now().Add(values.StreamAge), most: values.StreamBytes,
+		reader: fastimport.New(u.Tenant.Object), pace: newPace(), growth: growth{room: room, spare: inner.Spare()},
 		answer: answers.New(token, nil), leave: leave, blocked: make(chan error), over: make(chan struct{})}
+	inner.AtEnd(s.recountAtEnd)
 	_, s.unwatch = u.Site.Watch(context.Background(), u.User, u.Tenant.Name(), access.Write, s.block)
 	if err := s.tellChanges(ctx); err != nil {
 		s.giveUp()
@@ -84,13 +99,15 @@ func (s *stream) block(why error) {
 // refused. On an error, also of `take`, the stream was given up.
 func (s *stream) feed(ctx context.Context, piece []byte, take func(printed []byte) error) (answer frames.Answer, err error) {
 	for isFirst := true; isFirst || len(piece) > 0 && answer.Status == frames.Ok; isFirst = false {
-		part := piece[:partOf(piece)]
-		piece = piece[len(part):]
-		if err = s.mayTake(int64(len(part))); err == nil {
-			answer, err = s.feedInner(ctx, part)
-		}
+		part, refused := s.reader.Next(ctx, piece, s.pace.next)
+		answer, err = s.feedPart(ctx, piece[:part.Bytes], part)
+		piece = piece[part.Bytes:]
 		if err == nil {
 			err = take(answer.Reply)
+		}
+		if err == nil && answer.Status == frames.Ok {
+			// What came before is carried out first, for it may have a fault or a checkpoint.
+			err = refused
 		}
 		if err != nil {
 			s.giveUp()
@@ -100,22 +117,34 @@ func (s *stream) feed(ctx context.Context, piece []byte, take func(printed []byt
 	return answer, nil
 }
 
-// partBytes is how much of a stream goes to the child at once: a part this small holds up nobody's question for long.
-const partBytes = 64 << 10
-
-// printing is how a line begins, after the one before, that prints the contents of an object. All other lines print little.
-var printing = []byte("\ncat-blob ")
-
-// partOf gives how long the first part of a piece is, which prints the contents of one object at most. So no answer has many times the memory that
-// its stream takes.
-func partOf(piece []byte) int {
-	if len(piece) > partBytes {
-		piece = piece[:partBytes]
+func (s *stream) feedPart(ctx context.Context, piece []byte, part fastimport.Part) (frames.Answer, error) {
+	if err := s.mayTake(int64(len(piece))); err != nil {
+		return frames.Answer{}, err
 	}
-	if at := bytes.Index(piece, printing); at >= 0 {
-		return at + 1
+	answer, err := s.feedInner(ctx, piece)
+	if err != nil || answer.Status != frames.Ok {
+		return answer, err
 	}
-	return len(piece)
+	cost := s.count(int64(len(piece)))
+	s.pace.adapt(part, cost.Took)
+	if part.HasCheckpoint && s.growth.isWorthACount(cost.Resident) {
+		if err := s.recount(ctx); err != nil {
+			return frames.Answer{}, err
+		}
+	}
+	if s.growth.isBeyond(0) {
+		return frames.Answer{}, limits.ErrQuota
+	}
+	return answer, nil
+}
+
+// count counts more bytes of the stream, and what the child took since the last count, which it gives.
+func (s *stream) count(more int64) child.Cost {
+	all := s.inner.Cost()
+	cost := child.Cost{Took: all.Took - s.counted.Took, Grown: all.Grown - s.counted.Grown, Resident: all.Resident}
+	s.counted = all
+	s.growth.add(more, cost)
+	return cost
 }
 
 func (s *stream) feedInner(ctx context.Context, piece []byte) (frames.Answer, error) {
@@ -130,15 +159,23 @@ func (s *stream) feedInner(ctx context.Context, piece []byte) (frames.Answer, er
 	return answer, err
 }
 
+// Each part is a record of the journal, which has at most recordBytes beside. A stream takes at most journalFactor times as many bytes of the journal
+// as it may have itself.
+const (
+	recordBytes   = 128
+	journalFactor = 2
+)
+
 // mayTake counts more bytes of the stream, and refuses those that go beyond a limit.
 func (s *stream) mayTake(more int64) error {
 	s.taken += more
+	s.journaled += more + recordBytes
 	switch {
 	case time.Now().After(s.until):
 		return limits.ErrStreamAge
-	case s.taken > s.most:
+	case s.taken > s.most || s.journaled > journalFactor*s.most:
 		return limits.ErrStreamBytes
-	case s.taken > s.room:
+	case s.growth.isBeyond(more):
 		return limits.ErrQuota
 	}
 	if err := s.Site.Access.Blocked(s.User, s.Tenant.Name(), access.Write); err != nil {

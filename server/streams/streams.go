@@ -13,6 +13,7 @@ import (
 
 	"gitpoold/access"
 	"gitpoold/daily"
+	"gitpoold/fastimport"
 	"gitpoold/frames"
 	"gitpoold/limits"
 	"gitpoold/site"
@@ -33,6 +34,8 @@ type Use struct {
 	Tell func(sentence string)
 	// IsThere tells, after the end of In, whether the client ended it. Else the connection broke off.
 	IsThere func(ctx context.Context) bool
+	// IsLetIn is asked before frames that begin something. It is an error where what let the user in is no longer valid.
+	IsLetIn func() error
 	// Cut ends the connection, whatever the client does.
 	Cut func()
 	// Stopping is closed when the server stops.
@@ -46,9 +49,10 @@ var errLost = errors.New("the connection broke off before the stream ended")
 func NumberOf(err error) int {
 	var passed limits.Passed
 	var blocked *access.Blocked
+	var refused *fastimport.Refused
 	switch {
-	case errors.As(err, &passed), errors.As(err, &blocked), errors.Is(err, tenants.ErrFull), errors.Is(err, limits.ErrUserBusy),
-		errors.Is(err, daily.ErrBytes), errors.Is(err, daily.ErrChild), errors.Is(err, site.ErrReadOnly):
+	case errors.As(err, &refused), errors.As(err, &passed), errors.As(err, &blocked), errors.Is(err, tenants.ErrFull),
+		errors.Is(err, limits.ErrUserBusy), errors.Is(err, daily.ErrBytes), errors.Is(err, daily.ErrChild), errors.Is(err, site.ErrReadOnly):
 		return 25
 	case errors.Is(err, site.ErrNotFound):
 		return 32

@@ -59,7 +59,7 @@ func (f Fault) Error() string {
 
 // told are the errors, beside faults, whose text is a sentence for who pushes or fetches.
 var told = []error{ErrMissing, ErrBusy, ErrFull, ErrOtherName, child.ErrGone, journal.ErrFull, journal.ErrBroken, journal.ErrUnknown,
-	journal.ErrAway, journal.ErrUnsure, journal.ErrBehind, store.ErrUnknown, store.ErrClosed}
+	journal.ErrTooLarge, journal.ErrAway, journal.ErrUnsure, journal.ErrBehind, store.ErrUnknown, store.ErrClosed}
 
 // IsSentence tells whether the text of an error of this package may stand on a user's terminal. Any other error is the server's own
 // trouble, which goes to its log.

@@ -29,12 +29,18 @@ func (t Tenant) OpenFrames(ctx context.Context) (*FrameStream, error) {
 		unlock()
 		return nil, Fault{25}
 	}
+	share, err := t.enter()
+	if err != nil {
+		unlock()
+		return nil, err
+	}
 	inner, err := t.pool.store.Begin(ctx, t.name, store.Checkpoints)
 	if err != nil {
+		share.Leave(false)
 		unlock()
 		return nil, fromStore(err)
 	}
-	return &FrameStream{inner, unlock}, nil
+	return &FrameStream{inner, func() { share.Leave(true); unlock() }}, nil
 }
 
 // OpenOnce opens a stream as OpenFrames does, unless one with this token has ended well before. Then it gives what that one was answered, and
@@ -74,6 +80,15 @@ func (s *FrameStream) Feed(ctx context.Context, body []byte) (func(context.Conte
 	pending, err := s.inner.Feed(ctx, body)
 	return pending.Answer, err
 }
+
+// Cost gives what the child took for the stream so far.
+func (s *FrameStream) Cost() child.Cost { return s.inner.Cost() }
+
+// Spare is how much memory the child has, about, beside what tenants have.
+func (s *FrameStream) Spare() int64 { return s.inner.Spare() }
+
+// Recount lets the tenant's Room be what the quota leaves at the last checkpoint. The stream may be open or not.
+func (s *FrameStream) Recount(ctx context.Context) error { return s.inner.Recount(ctx) }
 
 // End ends the stream, and gives the answer once it is in the journal and synced. On an error the stream is open still.
 func (s *FrameStream) End(ctx context.Context) (frames.Answer, error) {
@@ -123,6 +138,8 @@ func ErrorNumber(err error) int {
 		return fault.Number
 	case errors.As(err, &refused):
 		return refused.Number
+	case errors.Is(err, journal.ErrTooLarge):
+		return 25
 	case errors.Is(err, journal.ErrFull), errors.Is(err, journal.ErrBroken), errors.Is(err, journal.ErrAway):
 		return 68
 	}

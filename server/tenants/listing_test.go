@@ -247,6 +247,8 @@ func (c *counting) Hold(bytes int64) error {
 	return nil
 }
 
+func (c *counting) Share(_ any, bytes int64) error { return c.Hold(bytes) }
+
 // Take does not wait: who waits for itself waits forever.
 func (c *counting) Take(_ context.Context, bytes int64) (func(), error) {
 	giveBack := c.TryTake(bytes)

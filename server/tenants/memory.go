@@ -6,6 +6,9 @@ import "context"
 type Memory interface {
 	// Hold counts bytes until the request has ended. Its error says that these are too many, and ends the request.
 	Hold(bytes int64) error
+	// Share counts bytes of a list that several requests of a user may hold, once for all of these, until each of them has ended. `list` is a pointer to
+	// it. An error ends the request too.
+	Share(list any, bytes int64) error
 	// Take waits until so many bytes of entries may be held, and gives the call that counts them no more.
 	Take(ctx context.Context, bytes int64) (giveBack func(), err error)
 	// TryTake does not wait. It is nil where so many may not be held now.
@@ -23,6 +26,11 @@ func Counted(ctx context.Context, memory Memory) context.Context {
 // Hold counts bytes in the memory of a context, if it has one.
 func Hold(ctx context.Context, bytes int64) error { return memoryOf(ctx).Hold(bytes) }
 
+// Share counts bytes of a list, which other requests may hold too, in the memory of a context, if it has one.
+func Share(ctx context.Context, list any, bytes int64) error {
+	return memoryOf(ctx).Share(list, bytes)
+}
+
 func memoryOf(ctx context.Context) Memory {
 	if memory, has := ctx.Value(memoryKey{}).(Memory); has {
 		return memory
@@ -34,5 +42,6 @@ func memoryOf(ctx context.Context) Memory {
 type endless struct{}
 
 func (endless) Hold(int64) error                            { return nil }
+func (endless) Share(any, int64) error                      { return nil }
 func (endless) Take(context.Context, int64) (func(), error) { return func() {}, nil }
 func (endless) TryTake(int64) func()                        { return func() {} }

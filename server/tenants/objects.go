@@ -171,25 +171,3 @@ func (t Tenant) Object(ctx context.Context, name Name) (found Object, err error)
 	err = t.Objects(ctx, []Name{name}, func(o Object) error { found = o; return nil })
 	return found, err
 }
-
-// Has tells of each name whether the tenant has an object of it.
-func (t Tenant) Has(ctx context.Context, names []Name) ([]bool, error) {
-	const atOnce = 1024
-	has := make([]bool, 0, len(names))
-	for len(names) > 0 {
-		part := names[:first(names, atOnce)]
-		names = names[len(part):]
-		queries := make([]string, len(part))
-		for i, name := range part {
-			queries[i] = "rev-parse " + name.String()
-		}
-		answers, err := t.begin(ctx, child.Short, queries)()
-		if err != nil {
-			return nil, err
-		}
-		for _, answer := range answers {
-			has = append(has, answer.Status == frames.Ok)
-		}
-	}
-	return has, nil
-}

@@ -4,13 +4,39 @@ import (
 	"context"
 	"errors"
 	"fmt"
+	"sort"
 	"strings"
 
 	"gitpoold/store"
 )
 
-// Refs are the refs of a tenant while its lock is held; a name that is not there holds the zero Name.
-type Refs map[string]Name
+// Refs are the refs of a tenant while its lock is held, in the order of their names.
+type Refs []Ref
+
+// Target gives what a ref holds: the zero Name where it is not there.
+func (r Refs) Target(ref string) Name {
+	if at := r.from(ref); at < len(r) && r[at].Name == ref {
+		return r[at].Target
+	}
+	return Name{}
+}
+
+// Below gives the refs that stand below a name: those that begin with it and a slash.
+func (r Refs) Below(name string) Refs {
+	// The byte after a slash is the zero.
+	return r[r.from(name+"/"):r.from(name+"0")]
+}
+
+// from is the place of the first ref that is not before a name.
+func (r Refs) from(name string) int {
+	return sort.Search(len(r), func(at int) bool { return r[at].Name >= name })
+}
+
+// Head gives the ref that HEAD names, which may hold nothing.
+func (t Tenant) Head(ctx context.Context) (string, error) {
+	reply, err := t.Ask(ctx, "head")
+	return strings.TrimSuffix(string(reply), "\n"), err
+}
 
 // ErrOtherName says that an object of a push would get another name than it has, so it is not kept as it is.
 var ErrOtherName = errors.New("an object would come to another name, so gitpool does not keep it as it is")
@@ -44,13 +70,19 @@ func (t Tenant) Push(ctx context.Context, judge func(Refs) error, feed func(*Str
 	if err != nil {
 		return err
 	}
+	share, err := t.enter()
+	if err != nil {
+		return err
+	}
+	s := &Stream{ctx: ctx, room: room, share: share}
+	defer func() { share.Leave(s.isEnding) }()
 	inner, err := t.pool.store.Begin(ctx, t.name, store.Whole)
 	if err != nil {
 		return fromStore(err)
 	}
 	// A stream that has ended is not given up; one whose `feed` fails, or panics, is.
 	defer inner.GiveUp()
-	s := &Stream{ctx: ctx, inner: inner, room: room}
+	s.inner = inner
 	return fromStore(s.run(feed))
 }
 
@@ -70,11 +102,7 @@ func (t Tenant) judged(ctx context.Context, judge func(Refs) error) error {
 	if err != nil {
 		return err
 	}
-	held := make(Refs, len(list))
-	for _, ref := range list {
-		held[ref.Name] = ref.Target
-	}
-	return judge(held)
+	return judge(list)
 }
 
 func fromStore(err error) error {
@@ -93,9 +121,12 @@ type Stream struct {
 	pending  []store.Pending
 	expected []expectation
 	room     int64
+	share    Reservation
 	fed      int64
 	last     string
 	lasts    func()
+	// isEnding says that the stream may have ended, whatever is known of that.
+	isEnding bool
 }
 
 // expectation is what the next get-mark has to print, or where to put it.
@@ -164,6 +195,7 @@ func (s *Stream) run(feed func(*Stream) error) error {
 	if len(s.expected) > 0 {
 		return errAnswer
 	}
+	s.isEnding = true
 	reply, err := s.inner.Commit(s.ctx, []byte(s.last+"done\n"))
 	if err == nil && strings.Contains(string(reply), "kept ") {
 		return errAnswer
@@ -192,6 +224,9 @@ func (s *Stream) flush() error {
 	s.fed += int64(len(s.waiting))
 	if s.fed > s.room {
 		return ErrFull
+	}
+	if err := s.share.Take(int64(len(s.waiting))); err != nil {
+		return err
 	}
 	pending, err := s.inner.Feed(s.ctx, s.waiting)
 	if err != nil {

@@ -32,7 +32,9 @@ type Pool struct {
 	store    Keeper
 	locks    locks
 	usage    *usage
+	owners   Owners
 	listings listings
+	refs     refLists
 }
 
 // New gives the tenants of a keeper. `quota` gives the bytes that a tenant may have, 0 for no limit.
@@ -44,6 +46,8 @@ func New(s Keeper, quota func(tenant string) int64) *Pool {
 type Tenant struct {
 	pool *Pool
 	name string
+	// user is who pushes; empty for the operator.
+	user string
 }
 
 var tenantName = regexp.MustCompile(`^[A-Za-z0-9_][A-Za-z0-9_-]*(/[A-Za-z0-9_][A-Za-z0-9_-]*)*$`)
@@ -59,7 +63,7 @@ func (p *Pool) Tenant(name string) (Tenant, error) {
 	if !ValidName(name) {
 		return Tenant{}, Fault{32}
 	}
-	return Tenant{p, name}, nil
+	return Tenant{pool: p, name: name}, nil
 }
 
 // Name is the tenant's name.
@@ -127,7 +131,8 @@ func (t Tenant) AskAll(ctx context.Context, queries []string) (replies [][]byte,
 	return replies, errs, err
 }
 
-// Refs gives all refs in the order of their bytes, and the ref that HEAD names, which may hold nothing.
+// Refs gives all refs in the order of their bytes, and the ref that HEAD names, which may hold nothing. Requests share the list, and nobody may change
+// it.
 func (t Tenant) Refs(ctx context.Context) (refs []Ref, head string, err error) {
 	replies, errs, err := t.AskAll(ctx, []string{"refs", "head"})
 	if err == nil {
@@ -139,22 +144,8 @@ func (t Tenant) Refs(ctx context.Context) (refs []Ref, head string, err error) {
 	if err != nil {
 		return nil, "", err
 	}
-	refs, err = readRefs(string(replies[0]))
+	refs, err = t.pool.refs.share(ctx, t.name, replies[0])
 	return refs, strings.TrimSuffix(string(replies[1]), "\n"), err
-}
-
-func readRefs(text string) (refs []Ref, err error) {
-	for text != "" {
-		line, rest, _ := strings.Cut(text, "\n")
-		digits, name, found := strings.Cut(line, " ")
-		target, ok := ParseName(digits)
-		if !found || !ok {
-			return nil, errAnswer
-		}
-		refs = append(refs, Ref{name, target})
-		text = rest
-	}
-	return refs, nil
 }
 
 // Log gives the commits of a range of gitrevisions(7), such as `main` or `A..B`, from new to old by the committer's time; so a parent

@@ -259,7 +259,7 @@ func TestNames(t *testing.T) {
 			t.Errorf("%q: %v", name, err)
 		}
 		// The program judges names in the same way.
-		_, err = Tenant{p, name}.Ask(background, "head")
+		_, err = Tenant{pool: p, name: name}.Ask(background, "head")
 		if (err == nil) != good || err != nil && err != (Fault{32}) {
 			t.Errorf("%q: the program says %v", name, err)
 		}

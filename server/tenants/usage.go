@@ -16,14 +16,20 @@ type usage struct {
 // unlimited is the room of a tenant without a quota.
 const unlimited = 1 << 62
 
-// Room gives how many bytes a push to the tenant may bring now, by its quota; ErrFull where there are none. Call it before the bytes
-// of a push are taken from the network: what is above it is refused in any case.
+// Room gives how many bytes a push to the tenant may bring now, by its quota and by the limits of who made it; ErrFull where there are none. Call it
+// before the bytes of a push are taken from the network: what is above it is refused in any case.
 func (t Tenant) Room() (int64, error) {
+	room, err := t.userRoom()
+	if err != nil {
+		return 0, err
+	}
 	most := t.pool.usage.quota(t.name)
 	if most <= 0 {
-		return unlimited, nil
+		return room, nil
 	}
-	room := most - t.pool.store.Bytes(t.name)
+	if left := most - t.pool.store.Bytes(t.name); left < room {
+		room = left
+	}
 	if room <= 0 {
 		return 0, ErrFull
 	}

@@ -14,7 +14,7 @@ USER, PASSWORD = "alice", "wonderland"
 LIMITS = {"journal-bytes": "2M", "save-every": "15s", "step": "30s", "connections": "4096", "connections-by-address": "4096",
           "requests-by-user": "1000", "second-child": "1"}
 TAKE_OVER = ("--take-over", "3s")
-LISTS = ("access", "passwords", "keys", "blocked", "limits", "hooks", "host_key", "host_key.pub")
+LISTS = ("access", "passwords", "keys", "blocked", "limits", "hooks", "host_key", "host_key.pub", "host_key_ecdsa", "host_key_ecdsa.pub")
 OF_SHARD = ("pool", "answers", "log-place")
 """What docs/DEPLOY.md has an operator copy to a machine that is to follow: of the folder, and of each shard."""
 OLDER = ("no record goes on from the pool file", "the log no longer has the records before record", "should come; copy the newest pool file")

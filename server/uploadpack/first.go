@@ -92,7 +92,8 @@ func (f *fetch) serveFirst(ctx context.Context, reader *pktline.Reader, isStatel
 			return err
 		}
 	}
-	n := negotiation{fetch: f, isCommon: map[tenants.Name]bool{}, isDetailed: f.can["multi_ack_detailed"], isMulti: f.can["multi_ack_detailed"] || f.can["multi_ack"]}
+	n := negotiation{fetch: f, seen: map[tenants.Name]bool{},
+		isDetailed: f.can["multi_ack_detailed"], isMulti: f.can["multi_ack_detailed"] || f.can["multi_ack"]}
 	goesOn, err := n.run(ctx, reader, isStateless)
 	if err != nil {
 		return say(f.out, err)
@@ -109,7 +110,7 @@ type negotiation struct {
 	*fetch
 	isDetailed, isMulti bool
 	last                tenants.Name
-	isCommon            map[tenants.Name]bool // the names of `common`
+	seen                map[tenants.Name]bool // what the client has and the tenant too, with what its tags lead to
 	hasCommon           bool                  // in all
 	gotCommon, gotOther bool                  // since the last flush
 	askedAt             int                   // how many names were common when it was last asked whether these are enough
@@ -154,9 +155,9 @@ func (n *negotiation) have(line string) error {
 	return n.argument(line)
 }
 
-// take answers the names since the last flush.
+// take answers the names since the last flush, each once.
 func (n *negotiation) take(ctx context.Context) error {
-	names := n.haves
+	names := distinct(n.haves)
 	n.haves = nil
 	has, err := n.t.Has(ctx, names)
 	if err != nil {
@@ -171,13 +172,8 @@ func (n *negotiation) take(ctx context.Context) error {
 		found = append(found, name)
 		n.acknowledge(name)
 	}
-	commits, err := commitsOf(ctx, n.t, found)
-	for _, name := range commits {
-		if !n.isCommon[name] {
-			n.isCommon[name] = true
-			n.common = append(n.common, name)
-		}
-	}
+	commits, err := follow(ctx, n.t, found, n.seen)
+	n.common = append(n.common, commits...)
 	return err
 }
 

@@ -16,6 +16,7 @@ import (
 // Repository is what a fetch asks of a tenant.
 type Repository interface {
 	walk.Source
+	Name() string
 	Has(context.Context, []tenants.Name) ([]bool, error)
 	Refs(context.Context) (refs []tenants.Ref, head string, err error)
 	Entries(ctx context.Context, objects tenants.Listing, use func(entries []byte) error) error
@@ -30,7 +31,8 @@ const (
 	tagRefs = "refs/tags/"
 )
 
-// Advertise writes what stands before the first request: refs and capabilities, or with protocol 2 the capabilities alone.
+// Advertise writes what stands before the first request: refs and capabilities, or with protocol 2 the capabilities alone. Where it fails before it
+// has written anything, the client was told nothing.
 func Advertise(ctx context.Context, t Repository, out *pktline.Writer, version int) error {
 	if version == 2 {
 		return advertiseSecond(out)
@@ -39,34 +41,41 @@ func Advertise(ctx context.Context, t Repository, out *pktline.Writer, version i
 	if err != nil {
 		return err
 	}
-	chains, err := chainsOf(ctx, t, refs)
+	chains, err := chainsOf(ctx, t, refs, refs)
 	if err != nil {
 		return err
 	}
 	if version == 1 {
 		out.Line("version 1")
 	}
-	capabilities := firstCapabilities
+	parts, capabilities := [][]tenants.Ref{refs}, firstCapabilities
 	if target, is := targetOf(refs, head); is {
-		refs = append([]tenants.Ref{{Name: "HEAD", Target: target}}, refs...)
+		parts = [][]tenants.Ref{{{Name: "HEAD", Target: target}}, refs}
 		capabilities += " symref=HEAD:" + head
 	}
-	AdvertiseRefs(out, refs, capabilities, chains)
+	advertise(out, parts, capabilities, chains)
 	return out.Flush()
 }
 
-// AdvertiseRefs writes refs as protocols 0 and 1 do. A tag's line is followed by what the tag is of, if chains has it.
-func AdvertiseRefs(out *pktline.Writer, refs []tenants.Ref, capabilities string, chains map[tenants.Name]Chain) {
+// AdvertiseRefs writes refs as protocols 0 and 1 do.
+func AdvertiseRefs(out *pktline.Writer, refs []tenants.Ref, capabilities string) {
+	advertise(out, [][]tenants.Ref{refs}, capabilities, nil)
+}
+
+// advertise writes parts of a list of refs. A tag's line is followed by what the tag is of, if chains has it.
+func advertise(out *pktline.Writer, parts [][]tenants.Ref, capabilities string, chains map[tenants.Name]Chain) {
 	tail := "\x00" + capabilities
-	if len(refs) == 0 {
-		out.Line("%v capabilities^{}%s", tenants.Name{}, tail)
-	}
-	for _, ref := range refs {
-		out.Line("%v %s%s", ref.Target, ref.Name, tail)
-		if chain := chains[ref.Target]; chain.Tags > 0 && strings.HasPrefix(ref.Name, tagRefs) {
-			out.Line("%v %s^{}", chain.Peeled, ref.Name)
+	for _, refs := range parts {
+		for _, ref := range refs {
+			out.Line("%v %s%s", ref.Target, ref.Name, tail)
+			if chain := chains[ref.Target]; chain.Tags > 0 && strings.HasPrefix(ref.Name, tagRefs) {
+				out.Line("%v %s^{}", chain.Peeled, ref.Name)
+			}
+			tail = ""
 		}
-		tail = ""
+	}
+	if tail != "" {
+		out.Line("%v capabilities^{}%s", tenants.Name{}, tail)
 	}
 	out.FlushPacket()
 }
@@ -89,27 +98,22 @@ type listing struct {
 // mostPrefixes is from where on prefixes select nothing, as in git.
 const mostPrefixes = 65536
 
-func readListing(arguments []string) (listing, error) {
-	var l listing
-	for _, argument := range arguments {
-		prefix, isPrefix := strings.TrimPrefix(argument, "ref-prefix "), strings.HasPrefix(argument, "ref-prefix ")
-		switch {
-		case argument == "peel":
-			l.peel = true
-		case argument == "symrefs":
-			l.symrefs = true
-		case argument == "unborn":
-			l.unborn = true
-		case isPrefix:
-			l.prefixes = append(l.prefixes, prefix)
-		default:
-			return l, fmt.Errorf("ls-refs does not know the argument `%s`", pktline.Show([]byte(argument)))
-		}
+// argument takes one line of the request.
+func (l *listing) argument(line string) error {
+	prefix, isPrefix := strings.TrimPrefix(line, "ref-prefix "), strings.HasPrefix(line, "ref-prefix ")
+	switch {
+	case line == "peel":
+		l.peel = true
+	case line == "symrefs":
+		l.symrefs = true
+	case line == "unborn":
+		l.unborn = true
+	case isPrefix:
+		l.prefixes = append(l.prefixes, prefix)
+	default:
+		return refused("ls-refs does not know the argument `%s`", pktline.Show([]byte(line)))
 	}
-	if len(l.prefixes) >= mostPrefixes {
-		l.prefixes = nil
-	}
-	return l, nil
+	return nil
 }
 
 // serve writes the refs that were asked for.
@@ -121,17 +125,19 @@ func (l listing) serve(ctx context.Context, t Repository, out *pktline.Writer) e
 	selected := l.selected(refs)
 	var chains map[tenants.Name]Chain
 	if l.peel {
-		if chains, err = chainsOf(ctx, t, selected); err != nil {
+		if chains, err = chainsOf(ctx, t, refs, selected...); err != nil {
 			return err
 		}
 	}
 	l.head(out, refs, head)
-	for _, ref := range selected {
-		tail := ""
-		if chain := chains[ref.Target]; chain.Tags > 0 && strings.HasPrefix(ref.Name, tagRefs) {
-			tail = fmt.Sprintf(" peeled:%v", chain.Peeled)
+	for _, part := range selected {
+		for _, ref := range part {
+			tail := ""
+			if chain := chains[ref.Target]; chain.Tags > 0 && strings.HasPrefix(ref.Name, tagRefs) {
+				tail = fmt.Sprintf(" peeled:%v", chain.Peeled)
+			}
+			out.Line("%v %s%s", ref.Target, ref.Name, tail)
 		}
-		out.Line("%v %s%s", ref.Target, ref.Name, tail)
 	}
 	out.FlushPacket()
 	return out.Flush()
@@ -152,19 +158,19 @@ func (l listing) head(out *pktline.Writer, refs []tenants.Ref, head string) {
 	}
 }
 
-// selected gives the refs that begin with one of the prefixes. Refs are in the order of their bytes.
-func (l listing) selected(refs []tenants.Ref) []tenants.Ref {
-	if len(l.prefixes) == 0 {
-		return refs
+// selected gives the parts of a list whose refs begin with one of the prefixes. Refs are in the order of their bytes.
+func (l listing) selected(refs []tenants.Ref) (parts [][]tenants.Ref) {
+	if len(l.prefixes) == 0 || len(l.prefixes) >= mostPrefixes {
+		return [][]tenants.Ref{refs}
 	}
-	var found []tenants.Ref
 	for _, prefix := range shortest(l.prefixes) {
-		at := sort.Search(len(refs), func(at int) bool { return refs[at].Name >= prefix })
-		for ; at < len(refs) && strings.HasPrefix(refs[at].Name, prefix); at++ {
-			found = append(found, refs[at])
+		from := sort.Search(len(refs), func(at int) bool { return refs[at].Name >= prefix })
+		count := sort.Search(len(refs)-from, func(at int) bool { return !strings.HasPrefix(refs[from+at].Name, prefix) })
+		if count > 0 {
+			parts = append(parts, refs[from:from+count])
 		}
 	}
-	return found
+	return parts
 }
 
 // shortest gives prefixes in order, without those that begin with another: so no ref is looked at twice.

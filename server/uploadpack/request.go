@@ -124,33 +124,49 @@ func (q *request) check(ctx context.Context, t Repository) error {
 	return q.expand(ctx, t)
 }
 
-func distinct(names []tenants.Name) (once []tenants.Name) {
-	taken := map[tenants.Name]bool{}
+func distinct(names []tenants.Name) []tenants.Name { return unseen(names, map[tenants.Name]bool{}) }
+
+// unseen gives the names that were not seen, and marks them.
+func unseen(names []tenants.Name, seen map[tenants.Name]bool) (fresh []tenants.Name) {
 	for _, name := range names {
-		if !taken[name] {
-			taken[name] = true
-			once = append(once, name)
+		if !seen[name] {
+			seen[name] = true
+			fresh = append(fresh, name)
 		}
 	}
-	return once
+	return fresh
 }
 
-// commitsOf gives the commits that names lead to: what the tenant has not, and trees and blobs, are left out.
-func commitsOf(ctx context.Context, t Repository, names []tenants.Name) (commits []tenants.Name, err error) {
-	names, err = held(ctx, t, names)
-	for err == nil && len(names) > 0 {
+// commitsOf gives the commits that names lead to, each once: what the tenant has not, and trees and blobs, are left out.
+func commitsOf(ctx context.Context, t Repository, names []tenants.Name) ([]tenants.Name, error) {
+	return follow(ctx, t, names, map[tenants.Name]bool{})
+}
+
+// follow gives those that were not seen of the commits that names lead to, and marks what it comes to as seen. Tags alone are read.
+func follow(ctx context.Context, t Repository, names []tenants.Name, seen map[tenants.Name]bool) (commits []tenants.Name, err error) {
+	for names = unseen(names, seen); len(names) > 0; {
+		tags, others, err := t.Tags(ctx, names)
+		if err != nil {
+			return nil, err
+		}
+		found, _, err := t.Commits(ctx, others)
+		if err != nil {
+			return nil, err
+		}
+		commits = append(commits, found...)
 		var after []tenants.Name
-		err = t.Objects(ctx, names, func(o tenants.Object) error {
+		err = t.Objects(ctx, tags, func(o tenants.Object) error {
 			if target, is := tagged(o); is {
 				after = append(after, target)
-			} else if o.Kind == tenants.Commit {
-				commits = append(commits, o.Name)
 			}
 			return nil
 		})
-		names = after
+		if err != nil {
+			return nil, err
+		}
+		names = unseen(after, seen)
 	}
-	return commits, err
+	return commits, nil
 }
 
 func held(ctx context.Context, t Repository, names []tenants.Name) (found []tenants.Name, err error) {
@@ -207,7 +223,7 @@ func named(refs map[string]tenants.Name, name string) (target tenants.Name, isOn
 
 // say tells the client why it is refused, where its protocol has room for that, and gives the error back.
 func say(out *pktline.Writer, err error) error {
-	out.Line("ERR %s", Sentence(err))
+	out.Refuse(Sentence(err))
 	out.Flush()
 	return err
 }

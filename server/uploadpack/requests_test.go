@@ -24,6 +24,7 @@ type memoryRepository struct {
 	objects map[tenants.Name]tenants.Object
 	refs    []tenants.Ref
 	head    string
+	name    string
 }
 
 func (m *memoryRepository) add(kind tenants.Kind, contents string) tenants.Name {
@@ -74,6 +75,30 @@ func (m *memoryRepository) Has(_ context.Context, names []tenants.Name) (has []b
 		has = append(has, is)
 	}
 	return has, nil
+}
+
+func (m *memoryRepository) Name() string { return m.name }
+
+func (m *memoryRepository) Tags(_ context.Context, names []tenants.Name) (tags, others []tenants.Name, err error) {
+	tags, others = m.parted(tenants.Tag, names)
+	return tags, others, nil
+}
+
+func (m *memoryRepository) Commits(_ context.Context, names []tenants.Name) (commits, others []tenants.Name, err error) {
+	commits, others = m.parted(tenants.Commit, names)
+	return commits, others, nil
+}
+
+// parted parts names into those of objects of a kind and the others.
+func (m *memoryRepository) parted(kind tenants.Kind, names []tenants.Name) (found, others []tenants.Name) {
+	for _, name := range names {
+		if m.objects[name].Kind == kind {
+			found = append(found, name)
+		} else {
+			others = append(others, name)
+		}
+	}
+	return found, others
 }
 
 func (m *memoryRepository) Refs(context.Context) ([]tenants.Ref, string, error) {
@@ -265,7 +290,11 @@ func TestPrefixesAreLookedUpOnce(t *testing.T) {
 		refs = append(refs, tenants.Ref{Name: fmt.Sprintf("refs/heads/b%03d", at)})
 	}
 	l := listing{prefixes: []string{"refs/heads/b01", "refs/heads/b0", "refs/heads/b01", "refs/heads/b999", "refs/none"}}
-	if got := len(l.selected(refs)); got != 101 {
+	got := 0
+	for _, part := range l.selected(refs) {
+		got += len(part)
+	}
+	if got != 101 {
 		t.Fatalf("%d refs", got)
 	}
 }
@@ -354,17 +383,19 @@ func TestRoundsOfANegotiationAddUp(t *testing.T) {
 
 // bounded is a memory of so many bytes.
 type bounded struct {
-	held, most int64
-	frees      int
+	held, most   int64
+	holds, frees int
 }
 
 func (b *bounded) Hold(bytes int64) error {
+	b.holds++
 	if b.held += bytes; b.held > b.most {
 		return Refused{"too much is held"}
 	}
 	return nil
 }
 
+func (b *bounded) Share(_ any, bytes int64) error              { return b.Hold(bytes) }
 func (b *bounded) Take(context.Context, int64) (func(), error) { return func() {}, nil }
 func (b *bounded) TryTake(int64) func()                        { return func() {} }
 func (b *bounded) Free()                                       { b.frees++ }
@@ -384,6 +415,37 @@ func TestCommitsThatAreWalkedAreCounted(t *testing.T) {
 			_ = s.Serve(context.Background(), m, bufio.NewReader(bytes.NewReader(request)), pktline.NewWriter(&out), version, true)
 			if bytes.Contains(out.Bytes(), []byte("ERR too much is held")) != isRefused || bytes.Contains(out.Bytes(), []byte("PACK")) == isRefused || b.frees != 1 {
 				t.Errorf("protocol %d with %d bytes: %+v, %.200q", version, most, b, out.Bytes())
+			}
+			// Each of them asks for the limits, which takes longer than to read a commit.
+			if b.holds > len(commits)/16 {
+				t.Errorf("protocol %d: %d commits were counted in %d steps", version, len(commits), b.holds)
+			}
+		}
+	}
+}
+
+// TestSetsOfNamesAreCounted has 1,000 files, which a filter looks for by their depth, or which a client lists that wants one of them by its name too.
+func TestSetsOfNamesAreCounted(t *testing.T) {
+	m := &memoryRepository{objects: map[tenants.Name]tenants.Object{}, head: "refs/heads/main"}
+	tree, last := "", tenants.Name{}
+	for at := 0; at < 1000; at++ {
+		last = m.add(tenants.Blob, fmt.Sprint(at))
+		tree += fmt.Sprintf("100644 f%04d\x00%s", at, last[:])
+	}
+	parent := m.add(tenants.Commit, fmt.Sprintf("tree %v\ncommitter A <a@b> 1 +0000\n\nm\n", m.add(tenants.Tree, "")))
+	commit := m.add(tenants.Commit, fmt.Sprintf("tree %v\nparent %v\ncommitter A <a@b> 2 +0000\n\nm\n", m.add(tenants.Tree, tree), parent))
+	want := fmt.Sprintf("want %v\n", commit)
+	for what, request := range map[string][]byte{
+		"depth": lines("command=fetch\n", "|", want, "filter tree:2\n", "done\n", ""),
+		"named": lines("command=fetch\n", "|", want, fmt.Sprintf("want %v\n", last), fmt.Sprintf("have %v\n", parent), "done\n", ""),
+	} {
+		for most, isRefused := range map[int64]bool{1000 * 60: true, 1000 * 90: false} {
+			b := &bounded{most: most}
+			var out bytes.Buffer
+			s := Server{Memory: func() Memory { return b }}
+			_ = s.Serve(context.Background(), m, bufio.NewReader(bytes.NewReader(request)), pktline.NewWriter(&out), 2, true)
+			if bytes.Contains(out.Bytes(), []byte("too much is held")) != isRefused || bytes.Contains(out.Bytes(), []byte("PACK")) == isRefused {
+				t.Errorf("%s with %d bytes: %+v, %.200q", what, most, b, out.Bytes())
 			}
 		}
 	}

@@ -20,10 +20,12 @@ func advertiseSecond(out *pktline.Writer) error {
 	return out.Flush()
 }
 
-// command is one request of protocol 2.
+// command is one request of protocol 2: what its arguments ask for, or why one of them is refused.
 type command struct {
-	name      string
-	arguments []string
+	name    string
+	fetch   *request
+	listing listing
+	refusal error
 }
 
 func (s Server) serveSecond(ctx context.Context, t Repository, reader *pktline.Reader, out *pktline.Writer, isStateless bool) error {
@@ -34,6 +36,7 @@ func (s Server) serveSecond(ctx context.Context, t Repository, reader *pktline.R
 		case err == io.EOF || err == nil && c.name == "":
 			return nil
 		case err != nil:
+			out.Band(c.fetch.can[sidebandAll])
 			return say(out, err)
 		}
 		if err := s.carryOut(ctx, t, c, out); err != nil || isStateless {
@@ -44,24 +47,28 @@ func (s Server) serveSecond(ctx context.Context, t Repository, reader *pktline.R
 
 // carryOut answers one command. An error was told to the client where there is room for it.
 func (s Server) carryOut(ctx context.Context, t Repository, c command, out *pktline.Writer) error {
+	out.Band(c.fetch.can[sidebandAll])
+	defer out.Band(false)
+	if c.refusal != nil {
+		return say(out, c.refusal)
+	}
+	ctx, free := s.counted(ctx)
+	defer free()
 	switch c.name {
 	case "ls-refs":
-		l, err := readListing(c.arguments)
-		if err != nil {
-			return say(out, Refused{err.Error()})
-		}
-		if err := l.serve(ctx, t, out); err != nil {
+		if err := c.listing.serve(ctx, t, out); err != nil {
 			return say(out, err)
 		}
 		return nil
 	case "fetch":
-		return s.fetchSecond(ctx, t, c.arguments, out)
+		return s.fetchSecond(ctx, t, c.fetch, out)
 	}
 	return say(out, refused("the command `%s` is not served", pktline.Show([]byte(c.name))))
 }
 
-// readCommand reads a request up to its flush. It is empty where the client ends the session.
-func readCommand(reader *pktline.Reader) (c command, err error) {
+// readCommand reads a request up to its flush. It is empty where the client ends the session. Of an argument nothing is kept but what it says.
+func readCommand(reader *pktline.Reader) (command, error) {
+	c := command{fetch: newRequest()}
 	isArgument := false
 	for {
 		packet, err := reader.Next()
@@ -77,7 +84,7 @@ func readCommand(reader *pktline.Reader) (c command, err error) {
 		case packet.Kind != pktline.Data:
 			return c, pktline.ErrMalformed
 		case isArgument:
-			c.arguments = append(c.arguments, text)
+			c.argument(text)
 		case strings.HasPrefix(text, "command="):
 			c.name = text[len("command="):]
 		case strings.HasPrefix(text, "object-format=") && text != "object-format=sha1":
@@ -86,34 +93,30 @@ func readCommand(reader *pktline.Reader) (c command, err error) {
 	}
 }
 
+// sidebandAll asks that all lines of an answer are in bands. The client reads bands then, whatever else is refused.
+const sidebandAll = "sideband-all"
+
 // flags of a fetch that have no value.
 var fetchFlags = map[string]bool{"done": true, "thin-pack": true, "no-progress": true, "include-tag": true, "ofs-delta": true,
-	"deepen-relative": true, "wait-for-done": true, "sideband-all": true}
+	"deepen-relative": true, "wait-for-done": true, sidebandAll: true}
 
-func readFetch(arguments []string) (*request, error) {
-	q := newRequest()
-	for _, argument := range arguments {
-		if fetchFlags[argument] {
-			q.can[argument] = true
-		} else if err := q.argument(argument); err != nil {
-			return nil, err
-		}
+// argument takes one argument. Once one is refused, the others say nothing any more.
+func (c *command) argument(text string) {
+	switch {
+	case c.name == "fetch" && fetchFlags[text]:
+		c.fetch.can[text] = true
+	case c.refusal != nil:
+	case c.name == "fetch":
+		c.refusal = c.fetch.argument(text)
+	case c.name == "ls-refs":
+		c.refusal = c.listing.argument(text)
 	}
-	return q, nil
 }
 
-func (s Server) fetchSecond(ctx context.Context, t Repository, arguments []string, out *pktline.Writer) error {
-	q, err := readFetch(arguments)
-	if err != nil {
-		return say(out, err)
-	}
+func (s Server) fetchSecond(ctx context.Context, t Repository, q *request, out *pktline.Writer) error {
 	if len(q.wants) == 0 && !q.can["wait-for-done"] {
 		return nil
 	}
-	out.Band(q.can["sideband-all"])
-	defer out.Band(false)
-	ctx, free := s.counted(ctx)
-	defer free()
 	f, err := s.begin(ctx, t, q, out)
 	if err != nil {
 		return say(out, err)
@@ -132,7 +135,9 @@ func (s Server) fetchSecond(ctx context.Context, t Repository, arguments []strin
 
 // acknowledge writes the section `acknowledgments`, unless the client is done, and tells whether the pack follows.
 func (f *fetch) acknowledge(ctx context.Context) (bool, error) {
-	names, err := held(ctx, f.t, distinct(f.haves))
+	told := distinct(f.haves)
+	f.haves = nil
+	names, err := held(ctx, f.t, told)
 	if err != nil {
 		return false, err
 	}

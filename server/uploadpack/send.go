@@ -132,12 +132,9 @@ func (a asking) Write(data []byte) (written int, err error) {
 
 func (f *fetch) sendPack(ctx context.Context, data, progress io.Writer) error {
 	q := walk.Request{Wants: f.wants, Haves: f.common, Was: f.shallow, Boundary: f.boundary, Filter: f.filter}
+	var err error
 	if f.can["include-tag"] {
-		refs, _, err := f.t.Refs(ctx)
-		if err != nil {
-			return err
-		}
-		if q.Tags, err = tagsOf(ctx, f.t, refs); err != nil {
+		if q.Tags, err = f.following(ctx); err != nil {
 			return err
 		}
 	}
@@ -146,13 +143,39 @@ func (f *fetch) sendPack(ctx context.Context, data, progress io.Writer) error {
 		return err
 	}
 	f.history = nil
-	fmt.Fprintf(progress, "Enumerating objects: %d, done.\n", listing.Len())
+	count := listing.Len()
+	if count > 0 {
+		fmt.Fprintf(progress, "Enumerating objects: %d, done.\nCounting objects: 100%% (%d/%d), done.\n", count, count, count)
+	}
 	w := pack.NewWriter(data)
-	if err := w.Begin(listing.Len()); err != nil {
+	if err := w.Begin(count); err != nil {
 		return err
 	}
 	if err := f.t.Entries(ctx, listing, w.Entries); err != nil {
 		return err
 	}
-	return w.Finish()
+	if err := w.Finish(); err != nil {
+		return err
+	}
+	// (git says the same of a pack whose objects it neither compresses nor copies from another)
+	_, err = fmt.Fprintf(progress, "Total %d (delta 0), reused 0 (delta 0), pack-reused 0\n", count)
+	return err
+}
+
+// followBytes is what is counted for each tag that may follow: it stands in maps, and in lists of what leads where.
+const followBytes = 256
+
+// following gives the tags that may follow what is sent. The list of refs is held no longer than that takes.
+func (f *fetch) following(ctx context.Context) (map[tenants.Name]tenants.Name, error) {
+	listing, free := f.counted(ctx)
+	defer free()
+	refs, _, err := f.t.Refs(listing)
+	if err != nil {
+		return nil, err
+	}
+	tags, err := tagsOf(listing, f.t, refs)
+	if err == nil {
+		err = tenants.Hold(ctx, followBytes*int64(len(tags)))
+	}
+	return tags, err
 }

@@ -15,77 +15,121 @@ type Chain struct {
 	Tags           int
 }
 
-// chainsOf gives the annotated tags that refs hold, by their names. It may give others that they lead to.
-func chainsOf(ctx context.Context, t Repository, refs []tenants.Ref) (map[tenants.Name]Chain, error) {
-	found := map[tenants.Name]Chain{}
-	isAsked := map[tenants.Name]bool{}
-	var unknown []tenants.Name
-	for _, ref := range refs {
-		if !strings.HasPrefix(ref.Name, tagRefs) || isAsked[ref.Target] {
-			continue
+// tagEnds are the chains of names that a tenant's refs under refs/tags/ held. Requests share them, and nobody changes them.
+type tagEnds struct{ chains map[tenants.Name]Chain }
+
+// endBytes is what is counted for each of them.
+const endBytes = 128
+
+// chainsOf gives the annotated tags that parts of a tenant's refs hold, by their names. It may give others too.
+func chainsOf(ctx context.Context, t Repository, refs []tenants.Ref, parts ...[]tenants.Ref) (map[tenants.Name]Chain, error) {
+	ends := remembered.of(t.Name())
+	if unknown := ends.unknown(parts); len(unknown) > 0 {
+		r := reading{known: ends.chains, read: map[tenants.Name]Chain{}}
+		if err := r.follow(ctx, t, unknown); err != nil {
+			return nil, err
 		}
-		isAsked[ref.Target] = true
-		if chain, is := remembered.get(ref.Target); is {
-			found[ref.Target] = chain
-		} else {
-			unknown = append(unknown, ref.Target)
-		}
+		ends = r.held(refs)
+		remembered.put(t.Name(), ends)
 	}
-	if err := readChains(ctx, t, unknown, found); err != nil {
-		return nil, err
-	}
-	for _, name := range unknown {
-		remembered.put(name, found[name])
-	}
-	return found, nil
+	return ends.chains, tenants.Share(ctx, ends, endBytes*int64(len(ends.chains)))
 }
 
-// readChains follows names that are not found yet, all of them a step at a time, and no object twice: chains may meet, and a tag on the way of
-// one may begin another. What is found on the way is kept too.
-func readChains(ctx context.Context, t Repository, names []tenants.Name, found map[tenants.Name]Chain) error {
+// unknown gives the targets under refs/tags/ that have no chain here, once each.
+func (e *tagEnds) unknown(parts [][]tenants.Ref) (names []tenants.Name) {
+	isAsked := map[tenants.Name]bool{}
+	for _, refs := range parts {
+		for _, ref := range refs {
+			if _, is := e.chains[ref.Target]; is || !strings.HasPrefix(ref.Name, tagRefs) || isAsked[ref.Target] {
+				continue
+			}
+			isAsked[ref.Target] = true
+			names = append(names, ref.Target)
+		}
+	}
+	return names
+}
+
+// reading has the chains that were read for one request, beside those that were known before.
+type reading struct {
+	known, read map[tenants.Name]Chain
+}
+
+func (r reading) get(name tenants.Name) (Chain, bool) {
+	chain, is := r.read[name]
+	if !is {
+		chain, is = r.known[name]
+	}
+	return chain, is
+}
+
+// follow follows names whose chains it has not, all of them a step at a time, and no object twice: chains may meet, and a tag on the way of one may
+// begin another. What is found on the way is kept too.
+func (r reading) follow(ctx context.Context, t Repository, names []tenants.Name) error {
 	targets := map[tenants.Name]tenants.Name{}
 	for _, name := range names {
 		targets[name] = name
 	}
 	for wave := names; len(wave) > 0; {
-		var after []tenants.Name
-		err := t.Objects(ctx, wave, func(o tenants.Object) error {
-			target, is := tagged(o)
-			if !is {
-				found[o.Name] = Chain{Target: o.Name, Peeled: o.Name}
-				return nil
-			}
-			targets[o.Name] = target
-			_, isFound := found[target]
-			if _, isAsked := targets[target]; !isAsked && !isFound {
-				targets[target] = target
-				after = append(after, target)
-			}
-			return nil
-		})
+		tags, others, err := t.Tags(ctx, wave)
 		if err != nil {
 			return err
 		}
-		wave = after
+		for _, name := range others {
+			r.read[name] = Chain{Target: name, Peeled: name}
+		}
+		if wave, err = r.step(ctx, t, tags, targets); err != nil {
+			return err
+		}
 	}
 	for _, name := range names {
-		findEnd(name, targets, found)
+		r.findEnd(name, targets)
 	}
 	return nil
 }
 
+// step reads tags, and gives what these lead to and nothing else has led to before.
+func (r reading) step(ctx context.Context, t Repository, tags []tenants.Name, targets map[tenants.Name]tenants.Name) (after []tenants.Name, err error) {
+	err = t.Objects(ctx, tags, func(o tenants.Object) error {
+		target, is := tagged(o)
+		if !is {
+			r.read[o.Name] = Chain{Target: o.Name, Peeled: o.Name}
+			return nil
+		}
+		targets[o.Name] = target
+		_, isFound := r.get(target)
+		if _, isAsked := targets[target]; !isAsked && !isFound {
+			targets[target] = target
+			after = append(after, target)
+		}
+		return nil
+	})
+	return after, err
+}
+
 // findEnd goes from a name to one whose chain is found, and then keeps the chains of all names on the way. So no way is gone twice.
-func findEnd(name tenants.Name, targets map[tenants.Name]tenants.Name, found map[tenants.Name]Chain) {
+func (r reading) findEnd(name tenants.Name, targets map[tenants.Name]tenants.Name) {
 	var way []tenants.Name
-	chain, isFound := found[name]
-	for ; !isFound; chain, isFound = found[name] {
+	chain, isFound := r.get(name)
+	for ; !isFound; chain, isFound = r.get(name) {
 		way = append(way, name)
 		name = targets[name]
 	}
 	for at := len(way) - 1; at >= 0; at-- {
 		chain = Chain{Target: targets[way[at]], Peeled: chain.Peeled, Tags: chain.Tags + 1}
-		found[way[at]] = chain
+		r.read[way[at]] = chain
 	}
+}
+
+// held gives the chains of what refs hold.
+func (r reading) held(refs []tenants.Ref) *tagEnds {
+	all := map[tenants.Name]Chain{}
+	for _, ref := range refs {
+		if chain, is := r.get(ref.Target); is && strings.HasPrefix(ref.Name, tagRefs) {
+			all[ref.Target] = chain
+		}
+	}
+	return &tagEnds{all}
 }
 
 // What is sent with what it leads to: chains of so many tags each, and of so many in all beside their first ones. A client asks for the others
@@ -97,7 +141,7 @@ const (
 
 // tagsOf gives the tags of all chains of refs that are not too long, the first ones and those between, with what each leads to in the end.
 func tagsOf(ctx context.Context, t Repository, refs []tenants.Ref) (map[tenants.Name]tenants.Name, error) {
-	chains, err := chainsOf(ctx, t, refs)
+	chains, err := chainsOf(ctx, t, refs, refs)
 	if err != nil {
 		return nil, err
 	}
@@ -119,20 +163,21 @@ func tagsOf(ctx context.Context, t Repository, refs []tenants.Ref) (map[tenants.
 
 // addBetween adds the tags that chains have after their first ones. Those that no ref holds are read, since they are not remembered.
 func addBetween(ctx context.Context, t Repository, wave []tenants.Name, chains map[tenants.Name]Chain, tags map[tenants.Name]tenants.Name) error {
+	r := reading{known: chains, read: map[tenants.Name]Chain{}}
 	for len(wave) > 0 {
 		var after, unknown []tenants.Name
 		for _, name := range wave {
-			chain := chains[name]
+			chain, _ := r.get(name)
 			if _, has := tags[chain.Target]; has || chain.Tags == 1 {
 				continue
 			}
 			tags[chain.Target] = chain.Peeled
 			after = append(after, chain.Target)
-			if _, isFound := chains[chain.Target]; !isFound {
+			if _, isFound := r.get(chain.Target); !isFound {
 				unknown = append(unknown, chain.Target)
 			}
 		}
-		if err := readChains(ctx, t, unknown, chains); err != nil {
+		if err := r.follow(ctx, t, unknown); err != nil {
 			return err
 		}
 		wave = after
@@ -140,29 +185,52 @@ func addBetween(ctx context.Context, t Repository, wave []tenants.Name, chains m
 	return nil
 }
 
-// chainCache remembers where names lead. A name says for ever where it leads; it is asked of names that a tenant's own refs hold. Of a chain it
-// has the beginning and the end alone, so that each name takes the same room.
-type chainCache struct {
-	mutex  sync.Mutex
-	chains map[tenants.Name]Chain
+// chainMemory remembers where the tags of tenants lead, for each tenant by itself: no answer is there sooner because another tenant has the same tag.
+// A name says for ever where it leads. Of a chain it has the beginning and the end alone, so that each name takes the same room.
+type chainMemory struct {
+	mutex   sync.Mutex
+	tenants map[string]*tagEnds
+	names   int
 }
 
 const mostRemembered = 1 << 18
 
-var remembered chainCache
+var remembered chainMemory
 
-func (m *chainCache) get(name tenants.Name) (Chain, bool) {
+// of gives what is remembered of a tenant.
+func (m *chainMemory) of(tenant string) *tagEnds {
 	m.mutex.Lock()
 	defer m.mutex.Unlock()
-	chain, is := m.chains[name]
-	return chain, is
+	if ends := m.tenants[tenant]; ends != nil {
+		return ends
+	}
+	return &tagEnds{}
 }
 
-func (m *chainCache) put(name tenants.Name, chain Chain) {
+// put remembers the chains of a tenant in the place of those before. Those of others go where they are too many together.
+func (m *chainMemory) put(tenant string, ends *tagEnds) {
 	m.mutex.Lock()
 	defer m.mutex.Unlock()
-	if m.chains == nil || len(m.chains) >= mostRemembered {
-		m.chains = map[tenants.Name]Chain{}
+	m.drop(tenant)
+	if len(ends.chains) > mostRemembered {
+		return
 	}
-	m.chains[name] = chain
+	for other := range m.tenants {
+		if m.names+len(ends.chains) > mostRemembered {
+			m.drop(other)
+		}
+	}
+	if m.tenants == nil {
+		m.tenants = map[string]*tagEnds{}
+	}
+	m.tenants[tenant] = ends
+	m.names += len(ends.chains)
+}
+
+// drop forgets the chains of a tenant; the mutex is held.
+func (m *chainMemory) drop(tenant string) {
+	if ends := m.tenants[tenant]; ends != nil {
+		m.names -= len(ends.chains)
+		delete(m.tenants, tenant)
+	}
 }

@@ -27,7 +27,7 @@ func (c *countingRepository) Objects(ctx context.Context, names []tenants.Name, 
 
 // nestedRepository has a commit, a tag of it, a tag of that tag and so on. Nothing of it is remembered yet.
 func nestedRepository(count int) (c *countingRepository, commit tenants.Name, tags []tenants.Name) {
-	remembered.chains = nil
+	remembered = chainMemory{}
 	m, commits := longRepository(1)
 	target, kind := commits[0], "commit"
 	for at := 1; at <= count; at++ {
@@ -74,7 +74,7 @@ func TestNestedTagsAreReadOnce(t *testing.T) {
 	before := heap()
 	var first, second string
 	took := allocated(func() { first, second = advertised(t, c) })
-	if c.asked != len(tags)+1 {
+	if c.asked != len(tags) {
 		t.Errorf("%d names were asked for", c.asked)
 	}
 	if kept := int64(heap() - before); kept > 4<<20 || took > 32<<20 {
@@ -89,7 +89,7 @@ func TestNestedTagsAreReadOnce(t *testing.T) {
 			t.Fatalf("ls-refs has not %q", line)
 		}
 	}
-	if advertised(t, c); c.asked != len(tags)+1 {
+	if advertised(t, c); c.asked != len(tags) {
 		t.Errorf("%d names were asked for in the end", c.asked)
 	}
 }
@@ -106,8 +106,8 @@ func TestChainsMeet(t *testing.T) {
 		if got := strings.Count(answer, " peeled:"+commit.String()+"\n"); got != 4 {
 			t.Errorf("%d tags have the right end: %s", got, answer)
 		}
-		if c.asked != len(tags)+2 || len(remembered.chains) != 4 {
-			t.Errorf("%d names were asked for, and %d are remembered", c.asked, len(remembered.chains))
+		if c.asked != len(tags)+1 || remembered.names != 4 {
+			t.Errorf("%d names were asked for, and %d are remembered", c.asked, remembered.names)
 		}
 	}
 }
@@ -171,16 +171,50 @@ func TestWhatIsRememberedIsBounded(t *testing.T) {
 	before := heap()
 	advertised(t, c)
 	fetched(t, c, commit)
-	if kept := int64(heap() - before); kept > 4<<20 || len(remembered.chains) != refs {
-		t.Errorf("%d MB are kept, of %d names", kept>>20, len(remembered.chains))
+	if kept := int64(heap() - before); kept > 4<<20 || remembered.names != refs {
+		t.Errorf("%d MB are kept, of %d names", kept>>20, remembered.names)
 	}
-	for at := uint32(0); at < mostRemembered+1000; at++ {
+	chain := Chain{Target: commit, Peeled: commit, Tags: 1}
+	for at := uint32(0); at < 2*mostRemembered/1000; at++ {
+		remembered.put(fmt.Sprintf("tenant%d", at), ofNames(1000, chain))
+	}
+	if kept := remembered.names; kept > mostRemembered || kept < mostRemembered-1000 || kept != 1000*len(remembered.tenants) {
+		t.Errorf("%d names are remembered, of %d tenants", kept, len(remembered.tenants))
+	}
+	remembered.put("large", ofNames(mostRemembered+1, chain))
+	if remembered.tenants["large"] != nil || remembered.names == 0 {
+		t.Errorf("%d names are remembered", remembered.names)
+	}
+	remembered = chainMemory{}
+}
+
+// ofNames has so many names that lead to the same.
+func ofNames(count uint32, chain Chain) *tagEnds {
+	ends := &tagEnds{map[tenants.Name]Chain{}}
+	for at := uint32(0); at < count; at++ {
 		var name tenants.Name
 		binary.BigEndian.PutUint32(name[:], at)
-		remembered.put(name, Chain{Target: commit, Peeled: commit, Tags: 1})
+		ends.chains[name] = chain
 	}
-	if kept := len(remembered.chains); kept > mostRemembered {
-		t.Errorf("%d names are remembered", kept)
+	return ends
+}
+
+// TestTenantsRememberTagsApart has two tenants with the same tags. The second one's are read as the first one's were.
+func TestTenantsRememberTagsApart(t *testing.T) {
+	c, _, tags := nestedRepository(100)
+	for _, tag := range tags {
+		c.hold(tag)
 	}
-	remembered.chains = nil
+	advertised(t, c)
+	first := c.asked
+	c.name = "acme/other"
+	if advertised(t, c); first != len(tags) || c.asked != 2*first {
+		t.Errorf("%d names were asked for, and then %d", first, c.asked-first)
+	}
+	for _, name := range []string{"", "acme/other"} {
+		c.name = name
+		if advertised(t, c); c.asked != 2*first {
+			t.Errorf("%q has forgotten its tags", name)
+		}
+	}
 }

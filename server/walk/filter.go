@@ -6,6 +6,8 @@ import (
 	"net/url"
 	"strconv"
 	"strings"
+
+	"gitpoold/pktline"
 )
 
 // Filter leaves objects out of a partial clone: git-rev-list(1), --filter. What is wanted by its own name is never left out.
@@ -35,9 +37,13 @@ func ParseFilter(text string) (Filter, error) {
 		err = strconv.ErrSyntax
 	}
 	if err != nil || f.TreeDepth < 0 || f.BlobBytes < 0 {
-		return All, fmt.Errorf("filter '%s' not supported", text)
+		return All, notServed(text)
 	}
 	return f, nil
+}
+
+func notServed(text string) error {
+	return fmt.Errorf("filter '%s' not supported", pktline.Show([]byte(text)))
 }
 
 // cutFront is strings.CutPrefix, which Go 1.19 has not.
@@ -56,7 +62,7 @@ func parseCombined(text string) (Filter, error) {
 	for _, part := range parts {
 		word, err := url.PathUnescape(part)
 		if err != nil || strings.HasPrefix(word, "combine:") {
-			return All, fmt.Errorf("filter '%s' not supported", part)
+			return All, notServed(part)
 		}
 		one, err := ParseFilter(word)
 		if err != nil {

@@ -15,6 +15,8 @@ import (
 // Source is what a walk asks: a tenant.
 type Source interface {
 	Objects(context.Context, []tenants.Name, func(tenants.Object) error) error
+	Tags(context.Context, []tenants.Name) (tags, others []tenants.Name, err error)
+	Commits(context.Context, []tenants.Name) (commits, others []tenants.Name, err error)
 	Log(context.Context, string) ([]tenants.Name, error)
 	Missing(ctx context.Context, wants, haves []tenants.Name) (tenants.Listing, error)
 }
@@ -41,11 +43,18 @@ type History struct {
 	cuts    map[tenants.Name]bool
 	common  []tenants.Name
 	rounds  int
-	tried   int // commits that walks for ReachesAny came to
+	tried   int   // commits that walks for ReachesAny came to
+	paid    int64 // bytes that are counted already, for commits that come
 }
 
-// commitBytes is what is counted for each commit that was read, beside the names of its parents: a walk has it in lists and sets of its own too.
-const commitBytes = 256
+const (
+	// commitBytes is what is counted for each commit that was read, beside the names of its parents: a walk has it in lists and sets of its own too.
+	commitBytes = 256
+	// countedAtOnce is how many bytes are counted at once, ahead of the commits: a walk reads them one by one, and to count asks for the limits.
+	countedAtOnce = 32 * commitBytes
+	// nameBytes is what is counted for each name in a set.
+	nameBytes = 64
+)
 
 // A walk goes to parents one round of questions after another. After so many rounds it asks for the rest of a history at once: in a
 // history that ends at a depth, later.
@@ -122,8 +131,21 @@ func (h *History) read(ctx context.Context, names []tenants.Name) error {
 		}
 		head := objects.ReadHead(o.Contents)
 		h.commits[o.Name] = &commit{Head: head, size: uint64(len(o.Contents))}
-		return tenants.Hold(ctx, commitBytes+int64(len(o.Name)*len(head.Parents)))
+		return h.count(ctx, commitBytes+int64(len(o.Name)*len(head.Parents)))
 	})
+}
+
+// count counts bytes of commits.
+func (h *History) count(ctx context.Context, bytes int64) error {
+	if h.paid >= bytes {
+		h.paid -= bytes
+		return nil
+	}
+	if err := tenants.Hold(ctx, bytes-h.paid+countedAtOnce); err != nil {
+		return err
+	}
+	h.paid = countedAtOnce
+	return nil
 }
 
 // trees gives the trees of commits that were read, once each.

@@ -83,28 +83,34 @@ func (s *selection) unlisted(names []tenants.Name) (left []tenants.Name) {
 	return left
 }
 
-// lead finds what names lead to: commits, and tags on the way; trees and blobs become named ones.
+// lead finds what names lead to: commits, and tags on the way; trees and blobs become named ones. Tags alone are read.
 func (s *selection) lead(ctx context.Context, names []tenants.Name) (commits []tenants.Name, tags tenants.Listing, err error) {
 	seen := map[tenants.Name]bool{}
 	for names = unseen(names, seen); len(names) > 0; {
+		wave, others, err := s.source.Tags(ctx, names)
+		if err != nil {
+			return nil, nil, err
+		}
+		found, others, err := s.source.Commits(ctx, others)
+		if err != nil {
+			return nil, nil, err
+		}
+		commits = append(commits, found...)
+		for _, name := range others {
+			s.isNamed[name] = true
+		}
 		var after []tenants.Name
-		err = s.source.Objects(ctx, names, func(o tenants.Object) error {
-			target, isTag := objects.Tagged(o.Contents)
-			switch {
-			case o.Kind == tenants.Commit:
-				commits = append(commits, o.Name)
-			case o.Kind != tenants.Tag:
-				s.isNamed[o.Name] = true
-			case isTag:
-				tags = tags.With(o.Name, o.Kind, uint64(len(o.Contents)))
-				after = append(after, unseen([]tenants.Name{target}, seen)...)
+		err = s.source.Objects(ctx, wave, func(o tenants.Object) error {
+			tags = tags.With(o.Name, o.Kind, uint64(len(o.Contents)))
+			if target, isTag := objects.Tagged(o.Contents); isTag {
+				after = append(after, target)
 			}
 			return nil
 		})
 		if err != nil {
 			return nil, nil, err
 		}
-		names = after
+		names = unseen(after, seen)
 	}
 	return commits, tags, nil
 }
@@ -159,12 +165,13 @@ func (s *selection) above(ctx context.Context, found tenants.Listing, roots []te
 			if o.Kind != tenants.Tree {
 				return nil
 			}
+			before := len(seen)
 			forEach(o.Contents, func(e objects.Entry) {
 				if fresh := unseen([]tenants.Name{e.Name}, seen); e.IsTree() {
 					after = append(after, fresh...)
 				}
 			})
-			return nil
+			return tenants.Hold(ctx, nameBytes*int64(len(seen)-before))
 		})
 		if err != nil {
 			return nil, err
@@ -197,12 +204,18 @@ func (s *selection) named(ctx context.Context) error {
 	if err == nil && s.countsDepth() {
 		found, err = s.above(ctx, found, roots)
 	}
+	if err == nil {
+		err = tenants.Hold(ctx, nameBytes*int64(s.listing.Len()))
+	}
+	if err != nil {
+		return err
+	}
 	listed := make(map[tenants.Name]bool, s.listing.Len())
 	for at := 0; at < s.listing.Len(); at++ {
 		listed[s.listing.Name(at)] = true
 	}
 	s.listing = append(s.listing, found.Keep(func(at int) bool { return !listed[found.Name(at)] })...)
-	return err
+	return nil
 }
 
 // filter leaves out what the filter does.

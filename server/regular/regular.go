@@ -1,0 +1,56 @@
+// Package regular opens the files of a server's folder. What is no regular file, nor a link to one, is refused: a named pipe would let the server
+// wait for ever, and a device would be what nobody meant.
+package regular
+
+import (
+	"fmt"
+	"io"
+	"io/fs"
+	"os"
+	"syscall"
+)
+
+// NotFile says that something else stands where a file should.
+type NotFile struct {
+	Path string
+	Mode fs.FileMode
+}
+
+func (n *NotFile) Error() string {
+	return fmt.Sprintf("%s is %s, and should be a file; nothing was changed", n.Path, kindOf(n.Mode))
+}
+
+func kindOf(mode fs.FileMode) string {
+	switch {
+	case mode.IsDir():
+		return "a folder"
+	case mode&fs.ModeNamedPipe != 0:
+		return "a named pipe"
+	case mode&fs.ModeSocket != 0:
+		return "a socket"
+	}
+	return "a device"
+}
+
+// Open opens a file for reading, or for what the flags say, and waits for nobody.
+func Open(path string, flags int) (*os.File, error) {
+	// What is there is asked first, for to open a device may do something.
+	info, err := os.Stat(path)
+	if err != nil {
+		return nil, err
+	}
+	if !info.Mode().IsRegular() {
+		return nil, &NotFile{path, info.Mode()}
+	}
+	return os.OpenFile(path, flags|syscall.O_NONBLOCK, 0)
+}
+
+// Read reads a file.
+func Read(path string) ([]byte, error) {
+	file, err := Open(path, os.O_RDONLY)
+	if err != nil {
+		return nil, err
+	}
+	defer file.Close()
+	return io.ReadAll(file)
+}
