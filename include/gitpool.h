@@ -16,8 +16,9 @@
  * Handles
  *
  * A service, a reply and a list of sizes are handles: structs that you own, each with one pointer to memory of the library. A handle
- * begins empty, as GITPOOL_EMPTY. gitpool_new and gitpool_load fill a service, gitpool_reply_new a reply and gitpool_list_sizes a list.
- * After a fault of these the handle is as it was. The calls that end in _free give the memory back and leave the handle empty.
+ * begins empty, as GITPOOL_EMPTY. gitpool_new, gitpool_load and gitpool_load_lent fill a service, gitpool_reply_new a reply and
+ * gitpool_list_sizes a list. After a fault of these the handle is as it was. The calls that end in _free give the memory back and leave the
+ * handle empty.
  * `handle.at == NULL` tells whether a handle is empty; do not use `at` otherwise. The struct may be moved: copy it, and forget the first.
  *
  * Your duty
@@ -31,12 +32,16 @@
  * - No pointer is NULL, also where the length beside it is 0. The memory at a pointer has that length, no other thread changes it during
  *   the call, and each of its bytes has been set. This holds for memory that a call only writes too: set a `room`, a `told` and a `totals`
  *   to zeros once. The pointers of one call do not overlap, except two that are only read.
+ * - The bytes that gitpool_load_lent is given stay where and as they are for as long as the process lives, also after gitpool_free. Nobody writes
+ *   into them, frees or unmaps them. If they are those of a file that is mapped, nobody writes into the file or shortens it; another file may
+ *   take its name.
  * - malloc and realloc give memory that is aligned to 16 bytes, and they and free are of one allocator, as those of each C library are.
  *
  * Bytes
  *
  * Names, streams, queries and files are a pointer and a length. They may have any bytes, also zeros, and need no zero at the end. The
- * library reads them during the call only, and keeps copies of what it needs. Bytes that the library hands out are copied to room of yours.
+ * library reads them during the call only, and keeps copies of what it needs, but for gitpool_load_lent, which keeps contents where they are.
+ * Bytes that the library hands out are copied to room of yours.
  */
 #ifndef GITPOOL_H
 #define GITPOOL_H
@@ -80,6 +85,11 @@ uint32_t gitpool_new(gitpool_service *service);
  * 68: the file would take more than 2^32 reads of 65,536 bytes. No clause excludes this answer for a shorter file; tests do.
  * 90: there is no memory. */
 uint32_t gitpool_load(gitpool_service *service, const uint8_t *file, size_t length);
+
+/* The same without copies of contents: the service reads them from these bytes, such as those of a file that is mapped, for as long as it has
+ * them. It answers and leaves what gitpool_load does of the same bytes. The duty above is for the life of the process. After gitpool_free the
+ * library has no pointer to these bytes; but that is not proved, and the proofs take it that the bytes never change. */
+uint32_t gitpool_load_lent(gitpool_service *service, const uint8_t *file, size_t length);
 
 /* Saves the repositories of all tenants at their last checkpoints. The bytes of the reply are then the whole pool file, in memory. What a
  * running stream has not saved is left out. The service is as it was, and its streams go on.

@@ -45,14 +45,14 @@ static int has_path(pid_t pid, uint64_t at) {
 
 static int is_counted(pid_t pid, const struct user_regs_struct *regs) {
   switch (regs->orig_rax) {
-    case SYS_read: return !writes && has_number(pid, regs->rdi);
+    case SYS_read: case SYS_pread64: return !writes && has_number(pid, regs->rdi);
     case SYS_write: case SYS_fsync: return writes && has_number(pid, regs->rdi);
     case SYS_rename: return writes && has_path(pid, regs->rdi);
     default: return 0;
   }
 }
 
-static int moves_bytes(uint64_t call) { return call == SYS_read || call == SYS_write; }
+static int moves_bytes(uint64_t call) { return call == SYS_read || call == SYS_pread64 || call == SYS_write; }
 
 // Goes on to where the next call begins or ends; ends with the program.
 static void go_on(pid_t pid) {

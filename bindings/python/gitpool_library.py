@@ -66,6 +66,7 @@ class _TenantSizes(ctypes.Structure):
 _CALLS: Dict[str, Tuple[Any, Sequence[Any]]] = {
     "gitpool_new": (c_uint32, [c_void_p]),
     "gitpool_load": (c_uint32, [c_void_p, c_char_p, c_size_t]),
+    "gitpool_load_lent": (c_uint32, [c_void_p, c_void_p, c_size_t]),
     "gitpool_save": (c_uint32, [c_void_p, c_void_p]),
     "gitpool_free": (None, [c_void_p]),
     "gitpool_open": (c_uint32, [c_void_p, c_char_p, c_size_t, c_void_p]),
@@ -134,6 +135,8 @@ class Service(Calls):
     pool is the pool file, which need not be there yet; without one the service begins empty and keeps nothing. It is loaded now, saved by
     `close`, and locked meanwhile, as the program locks it. If this process is killed, nothing is saved.
     read_only asks for a service that locks nothing and never saves: it sees the pool as it is now, and what it is fed is lost.
+    maps asks for a pool file that is mapped, and not copied: the kernel reads what is used, and drops it again. The mapping lasts as long as
+    this process. Until then nobody may write into the file or shorten it; a save, which puts another file in its place, does neither.
     program, own_run and dies_with_us are those of gitpool.Service, and mean nothing here.
 
     Leaving the `with` block closes the service, and kills it where an exception leaves the block.
@@ -142,7 +145,7 @@ class Service(Calls):
     """
 
     def __init__(self, pool: Optional[PathLike] = None, program: Optional[PathLike] = None, *, read_only: bool = False,
-                 own_run: bool = False, dies_with_us: bool = False):
+                 own_run: bool = False, dies_with_us: bool = False, maps: bool = False):
         del program, own_run, dies_with_us
         self._ended = True
         # One entry: the call that takes it has the service until it puts it back. A list does that in a quarter of the time of a lock.
@@ -154,7 +157,7 @@ class Service(Calls):
         self._bind()
         self._pool = None if pool is None else self._take(pool, read_only)
         try:
-            self._fill()
+            self._fill(maps)
         except BaseException:
             self.kill()
             raise
@@ -172,13 +175,17 @@ class Service(Calls):
             raise ServiceError(4, f"{os.fspath(pool)} belongs to a server: use the module gitpool, which asks it")
         return PoolFile(pool, is_locked=not read_only)
 
-    def _fill(self) -> None:
+    def _fill(self, maps: bool) -> None:
         self._ended = False
-        content = self._pool.read() if self._pool else None
-        if content is None:
-            self._made(self._library.gitpool_new(self._at))
-        else:
+        mapped = self._pool.mapped() if self._pool and maps else None
+        content = self._pool.read() if self._pool and mapped is None else None
+        if mapped is not None:
+            first = ctypes.addressof(ctypes.c_char.from_buffer(mapped))
+            self._made(self._library.gitpool_load_lent(self._at, first, len(mapped)))
+        elif content is not None:
             self._made(self._library.gitpool_load(self._at, content, len(content)))
+        else:
+            self._made(self._library.gitpool_new(self._at))
         self._made(self._library.gitpool_reply_new(self._reply_at))
 
     def _made(self, number: int) -> None:

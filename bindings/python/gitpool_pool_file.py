@@ -4,13 +4,17 @@ from __future__ import annotations
 
 import contextlib
 import fcntl
+import mmap
 import os
 import stat
-from typing import Optional
+from typing import List, Optional
 
 from gitpool_program import TRY_AGAIN, PathLike, PoolBusy, ServiceError, error_of
 
 _NEW = os.O_RDWR | os.O_CREAT | os.O_EXCL | os.O_CLOEXEC
+
+# What was mapped stays so to the end of the process.
+_MAPPED: List[mmap.mmap] = []
 
 
 class PoolFile:
@@ -33,6 +37,22 @@ class PoolFile:
             return None
         except OSError:
             raise _device_error(self.path) from None
+
+    def mapped(self) -> Optional[mmap.mmap]:
+        """The file's bytes, mapped to the end of the process; None where there is no file, or an empty one. Raises ServiceError where it cannot be
+        read."""
+        try:
+            with open(self.path, "rb") as file:
+                if os.fstat(file.fileno()).st_size == 0:
+                    return None
+                # (private, and nobody writes into it)
+                found = mmap.mmap(file.fileno(), 0, access=mmap.ACCESS_COPY)
+        except FileNotFoundError:
+            return None
+        except (OSError, ValueError):
+            raise _device_error(self.path) from None
+        _MAPPED.append(found)
+        return found
 
     def _locked(self) -> int:
         """The lock: FILE.new, made anew and locked."""

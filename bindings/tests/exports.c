@@ -108,6 +108,27 @@ static void saves(gitpool_service *service, gitpool_reply *reply) {
   CHECK(again.at == NULL);
 }
 
+/* The bytes of a file give the same answers where they are lent as where they are copied, and so does each part from its begin. */
+static void lends(gitpool_service *service, gitpool_reply *reply) {
+  static uint8_t file[10000], again[10000];
+  gitpool_service lent = GITPOOL_EMPTY, copied = GITPOOL_EMPTY;
+  CHECK(gitpool_save(service, reply) == 0);
+  size_t length = gitpool_reply_read(reply, 0, file, sizeof file);
+  for (size_t cut = 0; cut < length; cut++) {
+    CHECK(gitpool_load_lent(&lent, file, cut) == gitpool_load(&copied, file, cut));
+    CHECK(lent.at == NULL && copied.at == NULL);
+  }
+  CHECK(gitpool_load_lent(&lent, file, sizeof file) == 69);
+  CHECK(gitpool_load_lent(&lent, file, length) == 0);
+  asks(&lent, reply);
+  refused(&lent, reply);
+  operates(&lent);
+  CHECK(gitpool_save(&lent, reply) == 0);
+  CHECK(gitpool_reply_read(reply, 0, again, sizeof again) == length && memcmp(again, file, length) == 0);
+  gitpool_free(&lent);
+  CHECK(lent.at == NULL);
+}
+
 int main(void) {
   gitpool_service service = GITPOOL_EMPTY;
   gitpool_reply reply = GITPOOL_EMPTY;
@@ -119,6 +140,7 @@ int main(void) {
   asks(&service, &reply);
   operates(&service);
   saves(&service, &reply);
+  lends(&service, &reply);
   gitpool_free(&service);
   gitpool_reply_free(&reply);
   CHECK(service.at == NULL && reply.at == NULL);

@@ -6,7 +6,7 @@ import tempfile
 import threading
 import types
 import unittest
-from typing import List, Type
+from typing import List, Tuple, Type
 
 import gitpool
 import gitpool_library
@@ -59,6 +59,30 @@ class ALibrary(unittest.TestCase):
             other.import_stream("u", [BLOB])
         with Service(self.pool) as service:
             self.assertEqual([it.tenant for it in service.sizes()], [b"t", b"u"])
+
+    def test_a_mapped_file_gives_what_a_copied_one_does(self) -> None:
+        with Service(self.pool, maps=True) as service:
+            service.import_stream("t", [BLOB])
+        with Service(self.pool, maps=True) as service:
+            self.assertEqual(service.object("t", "ce01").contents, b"hello\n")
+            service.import_stream("u", [BLOB + b"reset refs/heads/main\n"])
+            service.save()
+            self.assertEqual(service.object("t", "ce01").contents, b"hello\n")
+        with open(self.pool, "rb") as file:
+            whole = file.read()
+        with Service(self.pool) as copied, Service(self.pool, read_only=True, maps=True) as mapped:
+            self.assertEqual(list(mapped.sizes()), list(copied.sizes()))
+        for size in range(len(whole)):
+            part = os.path.join(self.folder, str(size))
+            with open(part, "wb") as file:
+                file.write(whole[:size])
+            refused = [self._refusal(part, maps) for maps in (False, True)]
+            self.assertEqual(refused[0], refused[1])
+
+    def _refusal(self, pool: str, maps: bool) -> Tuple[int, str]:
+        with self.assertRaises(ServiceError) as refused:
+            Service(pool, read_only=True, maps=maps)
+        return refused.exception.status, str(refused.exception)
 
     def test_the_program_and_the_library_lock_each_other_out(self) -> None:
         with gitpool.Service(self.pool) as other:

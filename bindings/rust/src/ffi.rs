@@ -41,6 +41,7 @@ pub struct TenantSizes {
 extern "C" {
     pub fn gitpool_new(service: *mut Service) -> u32;
     pub fn gitpool_load(service: *mut Service, file: *const u8, length: usize) -> u32;
+    pub fn gitpool_load_lent(service: *mut Service, file: *const u8, length: usize) -> u32;
     pub fn gitpool_save(service: *mut Service, reply: *mut Reply) -> u32;
     pub fn gitpool_free(service: *mut Service);
 

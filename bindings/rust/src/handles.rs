@@ -3,7 +3,7 @@
 //! Everything unsafe of this crate stands here. What the header asks of a caller holds for these reasons: a handle is made full and freed by
 //! its `Drop` alone; it is no `Send`, so it stays on the thread that filled it; each call borrows its handles mutably, so no second call is at
 //! work on one; and slices are set, have the length that they say, and no two of a call overlap, unless both are only read. No pointer is
-//! null, not even that of an empty slice.
+//! null, not even that of an empty slice. Bytes that are lent are `'static` and shared, so they stay as they are.
 
 use crate::ffi;
 
@@ -33,6 +33,12 @@ impl ServiceHandle {
     pub fn load(file: &[u8]) -> Result<ServiceHandle, u32> {
         let mut raw = ffi::Service { at: ffi::EMPTY };
         let number = unsafe { ffi::gitpool_load(&mut raw, file.as_ptr(), file.len()) };
+        filled(number, raw)
+    }
+
+    pub fn load_lent(file: &'static [u8]) -> Result<ServiceHandle, u32> {
+        let mut raw = ffi::Service { at: ffi::EMPTY };
+        let number = unsafe { ffi::gitpool_load_lent(&mut raw, file.as_ptr(), file.len()) };
         filled(number, raw)
     }
 

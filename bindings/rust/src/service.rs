@@ -57,6 +57,25 @@ impl Service {
         Service::with(ServiceHandle::load(file))
     }
 
+    /// Makes a service of the bytes of a pool file, without copies of contents. The service reads them where they are. These may be the bytes
+    /// of a file that is mapped and is never unmapped, written or shortened; other pages of it than those in use need no memory.
+    ///
+    /// Refused as `load` is for the same bytes.
+    ///
+    /// ```
+    /// # fn main() -> Result<(), gitpool::Error> {
+    /// let mut service = gitpool::Service::new()?;
+    /// service.import("alice", &b"blob\ndata 6\nhello\n"[..]).unwrap();
+    /// let file: &'static [u8] = service.save()?.leak();
+    /// let mut again = gitpool::Service::load_lent(file)?;
+    /// assert_eq!(again.object("alice", "ce01")?.contents, b"hello\n");
+    /// # Ok(())
+    /// # }
+    /// ```
+    pub fn load_lent(file: &'static [u8]) -> Result<Service, Error> {
+        Service::with(ServiceHandle::load_lent(file))
+    }
+
     fn with(handle: Result<ServiceHandle, u32>) -> Result<Service, Error> {
         let handle = handle.map_err(Error::of_number)?;
         let reply = ReplyHandle::new().map_err(Error::of_number)?;

@@ -127,6 +127,20 @@ fn leaves_no_stream_after_an_import_that_failed() {
 }
 
 #[test]
+fn lent_bytes_give_what_copied_ones_do() {
+    let file: &'static [u8] = service_of(COMMITS).save().unwrap().leak();
+    for cut in 0..file.len() {
+        assert_eq!(number_of(Service::load_lent(&file[..cut])), number_of(Service::load(&file[..cut])));
+    }
+    let mut lent = Service::load_lent(file).unwrap();
+    assert_eq!(lent.export("t").unwrap(), Service::load(file).unwrap().export("t").unwrap());
+    lent.import("u", BLOB).unwrap();
+    assert_eq!(lent.object("u", HELLO).unwrap().contents, b"hello\n");
+    lent.remove("u").unwrap();
+    assert_eq!(lent.save().unwrap(), file);
+}
+
+#[test]
 fn saves_and_loads() {
     let mut service = service_of(COMMITS);
     service.import("u/v", BLOB).unwrap();

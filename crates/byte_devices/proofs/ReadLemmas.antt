@@ -2,7 +2,7 @@
 use Rattle.std.proofs.Common.{◌≡◌, ℕ, zero, suc, ◌+◌, ◌^◌, ◌<◌, List, [], ◌∷◌, ◌++◌, length, take, get_or, refl, sym, ap, subst, ◌∙◌, append-nil, arith}
 use Rattle.std.proofs.lemmas.List.{length-append}
 use Rattle.std.specs.Io.KnownBytes.{Consumes, Keeps, IsAtEnd}
-use Rattle.byte_devices.specs.Device.{Device, HasRead, HasFault, counted_on}
+use Rattle.byte_devices.specs.Device.{Device, HasFault, counted_on}
 use Rattle.byte_devices.proofs.KnownBytes.{Consumes-nil, HasRead-trans, HasRead-kept}
 use Rattle.byte_devices.specs.Reading.{AreBytes, IsShort, HasReadWell, HasReadAll, HasFailed}
 

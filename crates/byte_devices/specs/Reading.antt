@@ -1,5 +1,5 @@
 -- What several calls of `read` in a row did to a reader.
-use Rattle.std.specs.Prelude.{ℕ, ◌<◌, List, length, get_or, Result, Ok, Err}
+use Rattle.std.specs.Prelude.{◌≡◌, ℕ, ◌<◌, List, length, get_or, Result, Ok, Err}
 use Rattle.std.specs.Io.KnownBytes.{IsAtEnd}
 use Rattle.byte_devices.specs.Device.{Device, HasRead, HasFault, IsWell}
 use Rattle.byte_devices.specs.declared.fill_fault.FillFault.{FillFault}
@@ -9,6 +9,12 @@ use Rattle.byte_devices.specs.declared.fill_fault.FillFault.TheVariants as fault
 pub record HasReadWell (old new : Device) (bytes : List ℕ) : Type 0 where
   pub read : HasRead old new bytes
   pub well : IsWell old new
+
+-- So many bytes were lent: they were read without a call.
+pub record HasLent (old : Device) (count : ℕ) (new : Device) (bytes : List ℕ) : Type 0 where
+  pub size : length bytes ≡ count
+  pub read : HasReadWell old new bytes
+  pub calls : new.calls ≡ old.calls
 
 -- Bytes were read, and then the reader was at its end.
 pub record HasReadAll (old new : Device) (bytes : List ℕ) : Type 0 where

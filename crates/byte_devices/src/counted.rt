@@ -3,11 +3,13 @@
 //! A call that can answer `Device` (68) takes one of these, so that the counts show afterwards
 //! whether the device failed. The counts assume nothing of the device inside.
 
-ghost use Rattle.std.specs.{Prelude.{◌≡◌}, Io.{ReadsAtMost, WritesAtMost}};
+ghost use Rattle.std.specs.{Prelude.{◌≡◌, IfSome, None}, Io.{ReadsAtMost, WritesAtMost}};
 ghost use Rattle.std.specs.Io.KnownBytes.{ReadConsumes, WriteAppends};
 ghost use Rattle.byte_devices.specs.Device.{device_of, calls_of, faults_of, passed_of, counted_on};
+ghost use Rattle.byte_devices.specs.{Device.{seen}, Reading.{HasLent}};
 ghost use Rattle.byte_devices.specs.Device.{faults_after_read, faults_after_write, passed_after};
 
+use crate::lends::Lends;
 use std::io;
 use std::io::{Read, Write};
 
@@ -102,6 +104,22 @@ impl<R: Read> Counted<R> {
             Err(_) => count_up(&mut self.faults, 1),
         }
         answer
+    }
+}
+
+impl<R: Lends> Counted<R> {
+    /// Asks the device for the next `count` bytes, lent for as long as the process lives, and
+    /// answers what it answers. The bytes count as passed. `None` if the device does not lend them;
+    /// nothing has changed then. No call and no fault is counted. Takes no memory of its own.
+    pub fn lend(&mut self, count: u64) -> Option<&'static [u8]>
+        ensures lent { IfSome result
+            (λ bytes. HasLent (seen (R.remaining (device_of self.old)) self.old) count
+            (seen (R.remaining (device_of self.new)) self.new) bytes.now) }
+        ensures none { result ≡ None → self.new ≡ self.old }
+    {
+        let bytes = self.device.lend(count)?;
+        count_up(&mut self.passed, count);
+        Some(bytes)
     }
 }
 

@@ -2,7 +2,8 @@
 //! error.
 //!
 //! `write_all` writes a whole text, or a prefix of it if a call fails. `fill` reads until a buffer
-//! is full, or answers why it could not. Nothing here knows what the bytes mean.
+//! is full, or answers why it could not. A reader that `Lends` may give its next bytes without a
+//! copy. Nothing here knows what the bytes mean.
 #![tactic(auto)]
 
 mod counted;
@@ -11,6 +12,7 @@ mod failing_reader;
 mod failing_writer;
 mod fill_fault;
 mod filling;
+mod lends;
 mod whole_text;
 mod write_fault;
 
@@ -20,5 +22,6 @@ pub use failing_reader::FailingReader;
 pub use failing_writer::FailingWriter;
 pub use fill_fault::FillFault;
 pub use filling::fill;
+pub use lends::{Copied, Lending, Lends, Lent};
 pub use whole_text::write_all;
 pub use write_fault::WriteFault;

@@ -6,7 +6,7 @@ use Rattle.std.specs.Cmp.Lexicographic.{bytes_decides}
 use Rattle.std.proofs.lemmas.Bool.{cases_eq, cases_Bool, ne_eqb}
 use Rattle.std.proofs.lemmas.Bool.Decides.{nat_tests}
 use Rattle.std.proofs.lemmas.Option.{same_Some, none-some}
-use Rattle.std.proofs.lemmas.List.{get_or-set_same, get_or-set_other, get_or_past}
+use Rattle.std.proofs.lemmas.List.{get_or-set_same, get_or-set_other, get_or_past, set-get_or}
 use Rattle.slab.specs.Slab.{Slab, Updates}
 use Rattle.git_model.specs.Content.{Content, name_by}
 use Rattle.content_pool.specs.Pool.{Cells, cell, content_of, holds, content, IsLive, HoldsEachOnce, Puts, Releases}
@@ -27,6 +27,11 @@ Writes-set p k e o was =
       here = get_or-set_same p k o None (grind (arith, get_or_past));
       others = λ s apart. get_or-set_other p k s o None apart;
     }
+
+-- What is stored, written where it is stored, changes nothing.
+pub set_as_was : (p : Cells) (k : ℕ) (e f : Stored) → cell p k ≡ Some e → f ≡ e → slice_set p k (Some f) ≡ p
+set_as_was p k e f was same =
+    ap (λ (o : Option Stored). slice_set p k o) (ap Some same ∙ sym was) ∙ set-get_or p k None
 
 -- A slab's update is a write.
 pub Writes-updates : (old new : Slab Stored) (k : ℕ) (o : Option Stored) → Updates old new k o

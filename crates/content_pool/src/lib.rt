@@ -13,5 +13,6 @@ mod prefix;
 mod slot;
 mod stored;
 
+pub use bytes::Bytes;
 pub use pool::Pool;
 pub use slot::Slot;

@@ -8,7 +8,7 @@
 //! twice. After two releases the slot is free, and the next new content is stored there.
 
 ghost use Rattle.std.specs.Prelude.{◌≡◌, ◌-◌, ◌<◌, ◌^◌, List, length, min, sum_by, MatchOption};
-ghost use Rattle.std.specs.Prelude.{IfOk, OnErr};
+ghost use Rattle.std.specs.Prelude.{IfOk, OnErr, IsTrue, ◌↔◌};
 ghost use Rattle.slab.specs.Slab.{values};
 ghost use Rattle.git_model.specs.{ObjectName.{object_name}, Content.{content_from}};
 ghost use Rattle.content_pool.specs.Pool.{holds, content, IsLive, CanHold, HasHoldsLeft, IsVacant};
@@ -156,7 +156,7 @@ impl<N: Naming> Pool<N> {
             self.hold(slot);
             return Ok(slot);
         }
-        let bytes = Bytes::copied(self.alloc, bytes)?;
+        let bytes = Bytes::from_slice(self.alloc, bytes)?;
         self.store(id, kind, bytes)
     }
 
@@ -172,11 +172,43 @@ impl<N: Naming> Pool<N> {
         ensures once { HoldsEachOnce self.new }
         ensures err { OnErr result (self.new ≡ self.old) }
     {
+        self.put_bytes(id, kind, Bytes::taken(bytes))
+    }
+
+    /// `put_named` of bytes that are owned or lent: they are stored without a copy.
+    ///
+    /// `Memory` (90) if there is no room; nothing has changed then. Owned bytes are freed then, and
+    /// also if the content was stored already.
+    pub fn put_bytes(&mut self, id: Name, kind: Kind, bytes: Bytes) -> Result<Slot, Memory>
+        requires named { id ≡ object_name N.digest_of kind bytes }
+        requires room { HasHoldsLeft self.old }
+        ensures puts { IfOk result (λ slot. Puts self.old self.new slot (content_from kind bytes)) }
+        ensures once { HoldsEachOnce self.new }
+        ensures err { OnErr result (self.new ≡ self.old) }
+    {
         if let Some(slot) = self.find(id, kind, bytes.as_slice()) {
             self.hold(slot);
             return Ok(slot);
         }
-        self.store(id, kind, Bytes::taken(bytes))
+        self.store(id, kind, bytes)
+    }
+
+    /// Lends a live slot the bytes that it has, for as long as the process lives, and frees the
+    /// slot's own copy.
+    ///
+    /// Answers whether these are the bytes of the slot. If not, the slot stays as it is. In both
+    /// cases the pool holds what it held. Takes no memory.
+    #[tactic(auto, unfolding(crate::specs::Pool::holds, crate::specs::Pool::content))]
+    pub fn lend_again(&mut self, slot: Slot, bytes: &'static [u8]) -> bool
+        requires { IsLive self.old slot }
+        ensures same { self.new ≡ self.old }
+        ensures told { IsTrue result ↔ ((content self.old slot).bytes ≡ bytes.now) }
+    {
+        if !self.cells[slot.key].has_bytes(bytes) {
+            return false;
+        }
+        self.cells[slot.key].bytes = Bytes::lent(bytes);
+        true
     }
 
     /// Holds a live slot once more. The caller makes sure that it is held fewer than 2^64 - 1

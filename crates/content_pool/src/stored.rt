@@ -25,4 +25,11 @@ impl Stored {
     {
         self.kind == kind && self.bytes.as_slice() == bytes
     }
+
+    /// Whether these are the bytes of the content.
+    pub fn has_bytes(&self, bytes: &[u8]) -> bool
+        ensures { IsTrue result ↔ (self.now.bytes ≡ bytes.now) }
+    {
+        self.bytes.as_slice() == bytes
+    }
 }

@@ -1,4 +1,4 @@
-//! Tests of byte_devices, git_names, git_paths and git_objects. There is no other code here.
+//! Tests of byte_devices, lending_readers, git_names, git_paths and git_objects. There is no other code here.
 #![tactic(auto)]
 
 #[cfg(test)]
@@ -9,3 +9,5 @@ mod names;
 mod objects;
 #[cfg(test)]
 mod paths;
+#[cfg(test)]
+mod readers;

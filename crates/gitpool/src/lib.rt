@@ -27,7 +27,7 @@ mod sizing;
 mod step_fault;
 
 pub use asking::ask;
-pub use byte_devices::WriteFault;
+pub use byte_devices::{Lends, WriteFault};
 pub use checking::check;
 pub use command_lines::{Line, VERSION};
 pub use content_pool::{Pool, Slot};

@@ -6,6 +6,7 @@
 
 mod handle;
 mod kept;
+mod lent;
 mod loose;
 mod numbers;
 mod operator;

@@ -2,11 +2,13 @@
 
 use crate::run_fault::RunFault;
 use gitpool::{Counted, Service, Sha1Naming};
+use lending_readers::ChunkedFile;
 use lock_files::{LockFile, NextFile};
 use std::fs::File;
 use std::io::{BufReader, ErrorKind, Read};
 
-// How many bytes of a pool file are read at once. More would copy large contents twice.
+// How many bytes are read at once of what is no file, such as a pipe. More would copy large
+// contents twice.
 const READ_AHEAD: usize = 32_768;
 
 // How a pool file begins that a save of this program writes: the eight bytes of the format, and its
@@ -22,7 +24,8 @@ pub enum Missing {
     Refused,
 }
 
-/// Loads the service in a pool file. If there is no file, `missing` says what the run begins with.
+/// Loads the service in a pool file, which lends its contents: they stay in memory as they were
+/// read, to the end of the process. If there is no file, `missing` says what the run begins with.
 ///
 /// 60 to 67 and 69 if the file is refused; 68 if it cannot be opened or read; 90 if memory ran out.
 pub fn load(
@@ -40,15 +43,23 @@ pub fn load(
 }
 
 fn load_from(rt: &HostRuntime, file: File) -> Result<Service<Sha1Naming>, RunFault> {
-    let mut reader = Counted::new(BufReader::with_capacity(rt.alloc(), READ_AHEAD, file)?);
-    load_of(rt, &mut reader)
+    let found = file.metadata()?;
+    if found.is_file() {
+        load_lent(rt, file, found.len())
+    } else {
+        load_copied(rt, file)
+    }
 }
 
-fn load_of<R: Read>(
-    rt: &HostRuntime,
-    reader: &mut Counted<R>,
-) -> Result<Service<Sha1Naming>, RunFault> {
-    Ok(Service::load(rt.alloc(), Sha1Naming, reader)?)
+fn load_lent(rt: &HostRuntime, file: File, length: u64) -> Result<Service<Sha1Naming>, RunFault> {
+    let mut reader = Counted::new(ChunkedFile::new(rt.alloc(), file, length)?);
+    Ok(Service::load_lent(rt.alloc(), Sha1Naming, &mut reader)?)
+}
+
+// What is no file cannot be read from a place on.
+fn load_copied(rt: &HostRuntime, file: File) -> Result<Service<Sha1Naming>, RunFault> {
+    let mut reader = Counted::new(BufReader::with_capacity(rt.alloc(), READ_AHEAD, file)?);
+    Ok(Service::load(rt.alloc(), Sha1Naming, &mut reader)?)
 }
 
 /// Whether the pool file is there, and of the version that a save writes.

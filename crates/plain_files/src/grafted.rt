@@ -75,9 +75,9 @@ pub(crate) fn gather<N: Naming>(
     if has_none(table, id) {
         return Ok(());
     }
-    let entries = read_entries(alloc, &Objects::of(pool, table, Sight::All), id)?;
+    let entries = read_entries(alloc, &Objects::of(&*pool, table, Sight::All), id)?;
     for entry in &entries {
-        gather_entry(alloc, pool, table, top, entry, files)?;
+        gather_entry(alloc, &*pool, table, top, entry, files)?;
     }
     Ok(())
 }
@@ -103,7 +103,7 @@ fn gather_entry<N: Naming>(
 {
     let path = child(alloc, top, entry.name)?;
     match entry.mode {
-        FileMode::Directory => gather(alloc, pool, table, &path, &entry.id, files),
+        FileMode::Directory => gather(alloc, &*pool, table, &path, &entry.id, files),
         _ => push_file(files, path, entry),
     }
 }

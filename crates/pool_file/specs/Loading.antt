@@ -1,6 +1,8 @@
 -- What a load of a pool file answers.
-use Rattle.std.specs.Prelude.{◌≡◌, ℕ, true, List, [], map, length, sum_by, Option, None, Some, Result, Ok, Err}
+use Rattle.std.specs.Prelude.{◌≡◌, ℕ, true, List, [], map, length, sum_by, Option, None, Some, Result, Ok, Err, IfOk}
+use Rattle.std.specs.Global.{Vec}
 use Rattle.std.specs.List.{AllByRecursion}
+use Rattle.byte_devices.specs.Device.{Device}
 use Rattle.content_pool.specs.Pool.{Cells, holds}
 use Rattle.tenant_tables.specs.View.{held}
 use Rattle.tenant_tables.specs.Objects.{objects}
@@ -9,11 +11,12 @@ use Rattle.tenant_refs.specs.TenantName.{is_tenant_name}
 use Rattle.pool_file_format.specs.declared.fault.Fault.{Fault}
 use Rattle.pool_file_format.specs.declared.fault.Fault.TheVariants as fault
 use Rattle.pool_file_format.specs.Format.{RawFile}
+use Rattle.pool_file_format.specs.Taking.{shown}
 use Rattle.pool_file_checks.specs.FileRefs.{AreRising}
 use Rattle.pool_file_checks.specs.Repositories.{Named}
 use Rattle.pool_file_checks.specs.Saved.{saved_in}
 use Rattle.pool_file_checks.specs.Saving.{IsGood, IsTextOf}
-use Rattle.pool_file_checks.specs.Judging.{IsJudged, IsRefused}
+use Rattle.pool_file_checks.specs.Judging.{IsJudged, IsRefused, IsBlamed}
 use Rattle.pool_file.specs.declared.tenant.Tenant.{Tenant}
 
 -- The repository of a loaded tenant, whose objects stand in a table over a pool.
@@ -82,3 +85,13 @@ abbrev pub LoadsEach : (List ℕ → List ℕ) → Option (List ℕ) → Result 
 LoadsEach digest None r = Unit {0}
 LoadsEach digest (Some bytes) r =
     (all : List Named) → IsTextOf digest all bytes → IsAnswer all r
+
+-- What a load answers, and what it does to the reader. The tenants are good ones over the pool even
+-- if the reader's bytes are not known.
+pub record Loads (digest : List ℕ → List ℕ) (bound : ℕ) (old : Device)
+    (r : Result (Cells × Vec Tenant) Fault) (new : Device) : Type 0 where
+  pub exact : LoadsAs digest old.known (shown (λ x. loaded_repositories x.0 x.1.items) r) new.known
+  pub found : LoadsText digest old.known (shown (λ x. loaded_repositories x.0 x.1.items) r)
+  pub only : LoadsEach digest old.known (shown (λ x. loaded_repositories x.0 x.1.items) r)
+  pub cause : IsBlamed bound old (shown (λ x. loaded_repositories x.0 x.1.items) r) new
+  pub tenants : IfOk r (λ x. AreTenants digest x.0 x.1.items)

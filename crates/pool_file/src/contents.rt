@@ -21,7 +21,7 @@ fn store_content<N: Naming>(pool: &mut Pool<N>, id: Name, object: RawObject) -> 
     ensures { IfOk result (λ slot. Puts pool.old pool.new slot (content_of (object_of object))) }
 {
     let RawObject { kind, bytes } = object;
-    pool.put_owned(id, kind_of(kind), bytes)
+    pool.put_bytes(id, kind_of(kind), bytes)
 }
 
 /// Moves the contents of a file's objects into a pool that holds nothing, and answers their slots

@@ -23,7 +23,7 @@ mod tenant;
 mod tenant_view;
 mod tenants;
 
-pub use loading::load;
+pub use loading::{load, load_by};
 pub use saving::{save, save_views};
 pub use tenant::Tenant;
 pub use tenant_view::TenantView;

@@ -6,13 +6,13 @@ ghost use Rattle.git_model.specs.Limits.{reads_limit};
 ghost use Rattle.pool_file_format.specs.Taking.{shown};
 ghost use Rattle.pool_file_checks.specs.Judging.{IsBlamed};
 ghost use Rattle.pool_file.specs.Loading.{loaded_repositories, AreTenants, LoadsAs, LoadsText};
-ghost use Rattle.pool_file.specs.Loading.{LoadsEach};
+ghost use Rattle.pool_file.specs.Loading.{LoadsEach, Loads};
 
 use crate::building::build;
 use crate::tenant::Tenant;
-use byte_devices::Counted;
+use byte_devices::{Copied, Counted, Lending};
 use content_pool::Pool;
-use pool_file_checks::read_judged;
+use pool_file_checks::read_judged_by;
 use pool_file_format::{Fault, StreamingDigest};
 use std::alloc::Global;
 use std::io::Read;
@@ -53,7 +53,21 @@ pub fn load<N: StreamingDigest, R: Read>(
     // The tenants are good ones over this pool, even if the reader's bytes are not known.
     ensures tenants { IfOk result (λ r. AreTenants N.digest_of r.0 r.1.items) }
 {
-    let judged = read_judged(alloc, &naming, reader)?;
+    load_by::<N, R, Copied>(alloc, naming, reader)
+}
+
+/// `load` with contents that are lent, if `L` lends them; the pool keeps them without a copy. Nobody
+/// may write into lent bytes while the process lives.
+pub fn load_by<N: StreamingDigest, R: Read, L: Lending<R>>(
+    alloc: Global,
+    naming: N,
+    reader: &mut Counted<R>,
+) -> Result<(Pool<N>, Vec<Tenant>), Fault>
+    ensures { Loads N.digest_of (counted_on (calls_of reader.old) reads_limit)
+        (seen (R.remaining (device_of reader.old)) reader.old) result
+        (seen (R.remaining (device_of reader.new)) reader.new) }
+{
+    let judged = read_judged_by::<N, R, L>(alloc, &naming, reader)?;
     let loaded = build(alloc, naming, judged)?;
     Ok(loaded)
 }

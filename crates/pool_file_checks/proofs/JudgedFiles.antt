@@ -12,12 +12,16 @@ use Rattle.pool_file_format.specs.declared.fault.Fault.{Fault}
 use Rattle.pool_file_format.specs.declared.fault.Fault.TheVariants as fault
 use Rattle.pool_file_format.specs.Format.{RawFile, body_text}
 use Rattle.pool_file_format.specs.Lengths.{body_at, bytes_at, end_at, by_lengths, sealed_at, ◌>>=◌}
+use Rattle.pool_file_format.specs.Shown.{file_of, objects_of}
 use Rattle.pool_file_format.specs.Taking.{Gave, ReadsAll}
 use Rattle.pool_file_format.proofs.Formats.{IsBytes, bind_ok, bytes-each, ok_is}
 use Rattle.pool_file_checks.specs.Checks.{Passes, Refuses, Checked}
 use Rattle.pool_file_checks.specs.Whole.{file_checks}
 use Rattle.pool_file_checks.proofs.CheckLemmas.{passes_or_refuses}
-use Rattle.pool_file_checks.specs.Judging.{IsRefused, Judges, Finds, Says, ReadsTexts, IsBlamed}
+use Rattle.pool_file_checks.specs.Own.{names_of}
+use Rattle.pool_file_checks.specs.Quick.{KnowsSums}
+use Rattle.pool_file_checks.specs.declared.judged.Judged.{Judged}
+use Rattle.pool_file_checks.specs.Judging.{IsRefused, Judges, Finds, Says, ReadsTexts, IsBlamed, ReadsAndJudges}
 use Rattle.pool_file_checks.proofs.Texts.{Whole, judged, text_read_in, text_read}
 
 -- ---- nothing is left after a file
@@ -60,18 +64,14 @@ whole_read digest bytes f rest e =
 
 -- ---- the answer
 
-pub no_room : (digest : List ℕ → List ℕ) (old new : Option (List ℕ)) → Judges digest old (Err fault.Memory) new
-no_room digest None new = tt
-no_room digest (Some bytes) new = tt
-
-pub not_read : (digest : List ℕ → List ℕ) (old new : Option (List ℕ)) (e : Fault)
+not_read : (digest : List ℕ → List ℕ) (old new : Option (List ℕ)) (e : Fault)
     → Gave {A = RawFile} (sealed_at digest) old (Err e) new → Judges digest old (Err e) new
 not_read digest None new e g = tt
 not_read digest (Some bytes) new (fault.Refused r) g = inl g
 not_read digest (Some bytes) new fault.Device g = tt
 not_read digest (Some bytes) new fault.Memory g = tt
 
-pub not_passed : (digest : List ℕ → List ℕ) (old new : Option (List ℕ)) (f : RawFile) (e : Fault)
+not_passed : (digest : List ℕ → List ℕ) (old new : Option (List ℕ)) (f : RawFile) (e : Fault)
     → Gave (sealed_at digest) old (Ok f) new → Checked (file_checks digest f) (Err e)
     → Judges digest old (Err e) new
 not_passed digest None new f e g k = tt
@@ -81,7 +81,7 @@ not_passed digest (Some bytes) (Some rest) f (fault.Refused r) g k =
 not_passed digest (Some bytes) (Some rest) f fault.Memory g k = tt
 not_passed digest (Some bytes) (Some rest) f fault.Device g k = tt
 
-pub passed : (digest : List ℕ → List ℕ) (old new : Option (List ℕ)) (f : RawFile)
+passed : (digest : List ℕ → List ℕ) (old new : Option (List ℕ)) (f : RawFile)
     → Gave (sealed_at digest) old (Ok f) new → Passes (file_checks digest f)
     → Judges digest old (Ok f) new
 passed digest None new f g p = p
@@ -105,7 +105,7 @@ finds_in digest (Some bytes) (Some rest) read f names c small j =
     (subst (λ (l : List ℕ). IsBytes l) (sym all) (bytes-each read small)) j.0.read j.0.passes
 
 -- All bytes came through the reader, which gives bytes.
-pub finds : (digest : List ℕ → List ℕ) (bound : ℕ) (old new : Device) (f : RawFile)
+finds : (digest : List ℕ → List ℕ) (bound : ℕ) (old new : Device) (f : RawFile)
     → AnswersNames digest → ReadsAll bound (sealed_at digest) old (Ok f) new
     → Judges digest old.known (Ok f) new.known → Finds digest old.known (Ok f)
 finds digest bound old new f names g j =
@@ -124,7 +124,7 @@ not_refused digest bytes f r e p (inr other) =
     passes_or_refuses (file_checks digest f) r p
     (subst (λ (g : RawFile). Refuses (file_checks digest g) r) (same_file other.0 f (sym other.1 ∙ e)) other.2)
 
-pub reads_texts : (digest : List ℕ → List ℕ) (old new : Option (List ℕ)) (r : Result RawFile Fault)
+reads_texts : (digest : List ℕ → List ℕ) (old new : Option (List ℕ)) (r : Result RawFile Fault)
     → AnswersNames digest → Judges digest old r new → ReadsTexts digest old r
 reads_texts digest None new r names j = tt
 reads_texts digest (Some bytes) new (Ok f) names j = λ all text.
@@ -137,13 +137,67 @@ reads_texts digest (Some bytes) new (Err fault.Memory) names j = λ all text. tt
 
 -- ---- the device
 
-pub blamed : (digest : List ℕ → List ℕ) (bound : ℕ) (old new : Device) (r : Result RawFile Fault)
+blamed : (digest : List ℕ → List ℕ) (bound : ℕ) (old new : Device) (r : Result RawFile Fault)
     → ReadsAll bound (sealed_at digest) old r new → IsBlamed bound old r new
 blamed digest bound old new r g = record { blames = g.blames; few = g.few }
 
-pub checks_blame_none : (digest : List ℕ → List ℕ) (bound : ℕ) (old new : Device) (f : RawFile) (e : Fault)
+checks_blame_none : (digest : List ℕ → List ℕ) (bound : ℕ) (old new : Device) (f : RawFile) (e : Fault)
     → ReadsAll bound (sealed_at digest) old (Ok f) new → Checked (file_checks digest f) (Err e)
     → IsBlamed {A = RawFile} bound old (Err e) new
 checks_blame_none digest bound old new f (fault.Refused r) g k = record { blames = g.blames.asked; few = g.few }
 checks_blame_none digest bound old new f fault.Memory g k = record { blames = g.blames.asked; few = g.few }
 checks_blame_none digest bound old new f fault.Device g k = absurd k
+
+-- ---- all of it
+
+finds_none : (digest : List ℕ → List ℕ) (e : Fault) (old : Option (List ℕ)) → Finds digest old (Err e)
+finds_none digest e None = tt
+finds_none digest e (Some bytes) = tt
+
+-- No file was read.
+pub none_read : (digest : List ℕ → List ℕ) (bound : ℕ) (old new : Device) (e : Fault)
+    → AnswersNames digest → ReadsAll {A = RawFile} bound (sealed_at digest) old (Err e) new
+    → ReadsAndJudges digest bound old (Err e) new
+none_read digest bound old new e names g =
+    let j = not_read digest old.known new.known e g.gave in
+    record {
+      exact = j;
+      found = finds_none digest e old.known;
+      only = reads_texts digest old.known new.known (Err e) names j;
+      cause = blamed digest bound old new (Err e) g;
+      names = tt;
+      known = tt;
+    }
+
+-- A file was read and did not pass.
+pub none_passed : (digest : List ℕ → List ℕ) (bound : ℕ) (old new : Device) (f : RawFile) (e : Fault)
+    → AnswersNames digest → ReadsAll bound (sealed_at digest) old (Ok f) new
+    → Checked (file_checks digest f) (Err e) → ReadsAndJudges digest bound old (Err e) new
+none_passed digest bound old new f e names g k =
+    let j = not_passed digest old.known new.known f e g.gave k in
+    record {
+      exact = j;
+      found = finds_none digest e old.known;
+      only = reads_texts digest old.known new.known (Err e) names j;
+      cause = checks_blame_none digest bound old new f e g k;
+      names = tt;
+      known = tt;
+    }
+
+-- A file was read and passed.
+pub file_passed : (digest : List ℕ → List ℕ) (bound : ℕ) (old new : Device) (judged : Judged)
+    → AnswersNames digest → ReadsAll bound (sealed_at digest) old (Ok (file_of judged.file)) new
+    → Passes (file_checks digest (file_of judged.file))
+    → judged.names.items ≡ names_of digest (objects_of judged.file.objects.items)
+    → KnowsSums digest (objects_of judged.file.objects.items) judged.known
+    → ReadsAndJudges digest bound old (Ok judged) new
+file_passed digest bound old new judged names g passes named known =
+    let j = passed digest old.known new.known (file_of judged.file) g.gave passes in
+    record {
+      exact = j;
+      found = finds digest bound old new (file_of judged.file) names g j;
+      only = reads_texts digest old.known new.known (Ok (file_of judged.file)) names j;
+      cause = blamed digest bound old new (Ok (file_of judged.file)) g;
+      names = named;
+      known = known;
+    }

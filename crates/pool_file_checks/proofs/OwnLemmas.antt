@@ -38,7 +38,7 @@ id_of digest o = name_by digest (content_of o)
 
 pub named_on : (digest : List ℕ → List ℕ) (os : List Read) (i j : ℕ) (o : Read) (ids : List (List ℕ)) (id : List ℕ)
     → j ≡ suc i → i < length os → o ≡ get_or os i o
-    → ids ≡ names_of digest (objects_of (take i os)) → id ≡ object_name digest (kind_of o.kind) o.bytes.items
+    → ids ≡ names_of digest (objects_of (take i os)) → id ≡ object_name digest (kind_of o.kind) o.bytes
     → ids ++ id ∷ [] ≡ names_of digest (objects_of (take j os))
 named_on digest os i j o ids id next lt at before named =
     let all : names_of digest (objects_of (take (suc i) os)) ≡ names_of digest (objects_of (take i os)) ++ id_of digest (object_of (get_or os i o)) ∷ [] =

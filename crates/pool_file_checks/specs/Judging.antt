@@ -1,17 +1,21 @@
 -- What a call that reads and judges a pool file answers.
-use Rattle.std.specs.Prelude.{◌≡◌, ◌⊎◌, ℕ, ◌≤◌, List, [], Option, None, Some, Result, Ok, Err}
+use Rattle.std.specs.Prelude.{◌≡◌, ◌⊎◌, ℕ, ◌≤◌, List, [], Option, None, Some, Result, Ok, Err, IfOk}
 use Rattle.byte_devices.specs.Device.{Device}
 use Rattle.pool_file_format.specs.declared.refusal.Refusal.{Refusal}
 use Rattle.pool_file_format.specs.declared.fault.Fault.{Fault}
 use Rattle.pool_file_format.specs.declared.fault.Fault.TheVariants as fault
 use Rattle.pool_file_format.specs.Format.{RawFile}
 use Rattle.pool_file_format.specs.Lengths.{sealed_at}
-use Rattle.pool_file_format.specs.Taking.{Blames}
+use Rattle.pool_file_format.specs.Shown.{file_of, objects_of}
+use Rattle.pool_file_format.specs.Taking.{Blames, shown}
 use Rattle.pool_file_checks.specs.Checks.{Passes, Refuses}
+use Rattle.pool_file_checks.specs.Own.{names_of}
+use Rattle.pool_file_checks.specs.Quick.{KnowsSums}
 use Rattle.pool_file_checks.specs.Whole.{file_checks}
 use Rattle.pool_file_checks.specs.Repositories.{Named}
 use Rattle.pool_file_checks.specs.Saved.{saved_in}
 use Rattle.pool_file_checks.specs.Saving.{IsTextOf}
+use Rattle.pool_file_checks.specs.declared.judged.Judged.{Judged}
 
 -- All of the bytes are read as this file, with its digest, and it passes all checks.
 pub record IsJudged (digest : List ℕ → List ℕ) (bytes : List ℕ) (f : RawFile) : Type 0 where
@@ -61,3 +65,14 @@ pub record IsBlamed {A : Type 0} (bound : ℕ) (old : Device) (r : Result A Faul
     : Type 0 where
   pub blames : Blames bound r old new
   pub few : new.calls ≤ bound
+
+-- A file is read and judged: the answer, the calls of the reader, and the names and summaries beside
+-- a file.
+pub record ReadsAndJudges (digest : List ℕ → List ℕ) (bound : ℕ) (old : Device)
+    (r : Result Judged Fault) (new : Device) : Type 0 where
+  pub exact : Judges digest old.known (shown (λ j. file_of j.file) r) new.known
+  pub found : Finds digest old.known (shown (λ j. file_of j.file) r)
+  pub only : ReadsTexts digest old.known (shown (λ j. file_of j.file) r)
+  pub cause : IsBlamed bound old (shown (λ j. file_of j.file) r) new
+  pub names : IfOk r (λ j. j.names.items ≡ names_of digest (objects_of j.file.objects.items))
+  pub known : IfOk r (λ j. KnowsSums digest (objects_of j.file.objects.items) j.known)

@@ -6,13 +6,14 @@ ghost use Rattle.git_model.specs.Limits.{reads_limit};
 ghost use Rattle.pool_file_format.specs.{Shown.{objects_of, file_of}, Taking.{shown}};
 ghost use Rattle.pool_file_checks.specs.{Own.{names_of}, Quick.{KnowsSums}};
 ghost use Rattle.pool_file_checks.specs.Judging.{Judges, Finds, ReadsTexts, IsBlamed};
+ghost use Rattle.pool_file_checks.specs.Judging.{ReadsAndJudges};
 
 use crate::known::KnownSums;
 use crate::name_objects;
 use crate::whole::judge_file;
-use byte_devices::Counted;
+use byte_devices::{Copied, Counted, Lending};
 use git_names::Name;
-use pool_file_format::{Fault, RawFile, StreamingDigest, read_sealed};
+use pool_file_format::{Fault, RawFile, StreamingDigest, read_sealed_by};
 use std::alloc::Global;
 use std::io::Read;
 
@@ -66,7 +67,20 @@ pub fn read_judged<N: StreamingDigest, R: Read>(
     ensures known { IfOk result
         (λ j. KnowsSums N.digest_of (objects_of j.file.objects.items) j.known) }
 {
-    let file = read_sealed(alloc, naming, reader)?;
+    read_judged_by::<N, R, Copied>(alloc, naming, reader)
+}
+
+/// `read_judged` with contents that are lent, if `L` lends them; they are not copied then.
+pub fn read_judged_by<N: StreamingDigest, R: Read, L: Lending<R>>(
+    alloc: Global,
+    naming: &N,
+    reader: &mut Counted<R>,
+) -> Result<Judged, Fault>
+    ensures { ReadsAndJudges N.digest_of (counted_on (calls_of reader.old) reads_limit)
+        (seen (R.remaining (device_of reader.old)) reader.old) result
+        (seen (R.remaining (device_of reader.new)) reader.new) }
+{
+    let file = read_sealed_by::<N, R, L>(alloc, naming, reader)?;
     let names = name_objects(alloc, naming, &file.objects)?;
     let known = judge_file(alloc, &names, &file)?;
     Ok(Judged { file, names, known })

@@ -18,7 +18,7 @@ fn can_store(alloc: Global, object: &RawObject) -> Result<bool, Memory>
     ensures { IfOk result (λ b. IsTrue b ↔ CanStore (object_of object.now)) }
 {
     match kind_from(object.kind) {
-        Some(kind) => is_content(alloc, kind, &object.bytes),
+        Some(kind) => is_content(alloc, kind, object.bytes.as_slice()),
         None => Ok(false),
     }
 }

@@ -28,7 +28,7 @@ mod tenants;
 mod whole;
 
 pub use held::check_held;
-pub use judged::{Judged, read_judged};
+pub use judged::{Judged, read_judged, read_judged_by};
 pub use judging::check_objects;
 pub use known::KnownSums;
 pub use naming::{kind_of, name_objects};

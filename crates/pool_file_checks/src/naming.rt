@@ -46,7 +46,7 @@ pub fn name_objects<N: Naming>(
 {
     let mut names = Vec::with_capacity(alloc, objects.len())?;
     for object in objects {
-        let id = name_of(alloc, naming, kind_of(object.kind), &object.bytes)?;
+        let id = name_of(alloc, naming, kind_of(object.kind), object.bytes.as_slice())?;
         names.push(id)?;
     }
     Ok(names)

@@ -65,7 +65,7 @@ fn may_target(alloc: Global, name: &[u8], target: &RawObject) -> Result<bool, Me
     ensures { IfOk result (λ b. IsTrue b ↔ MayTarget name.now (object_of target.now)) }
 {
     match kind_from(target.kind) {
-        Some(kind) => is_target_of(alloc, name, kind, &target.bytes),
+        Some(kind) => is_target_of(alloc, name, kind, target.bytes.as_slice()),
         None => Ok(false),
     }
 }

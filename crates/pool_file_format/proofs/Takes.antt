@@ -1,10 +1,10 @@
 -- A room that was filled, or was not, and what that makes of a reading.
-use Rattle.std.proofs.Common.{◌≡◌, ℕ, ◌+◌, ◌≤◌, ◌<◌, List, length, Option, None, Some, Ok, Err, ap, refl, ◌∙◌, arith, inl, inr}
+use Rattle.std.proofs.Common.{◌≡◌, ℕ, ◌+◌, ◌≤◌, ◌<◌, List, length, Option, None, Some, Ok, Err, ap, refl, subst, ◌∙◌, arith, inl, inr}
 use Rattle.std.specs.Io.KnownBytes.{Consumes, IsAtEnd}
 use Rattle.std.proofs.lemmas.Bool.{lt-ltb}
 use Rattle.std.proofs.lemmas.List.{length-append}
 use Rattle.byte_devices.specs.Device.{Device}
-use Rattle.byte_devices.specs.Reading.{AreBytes, HasReadWell, HasReadAll, HasFailed}
+use Rattle.byte_devices.specs.Reading.{AreBytes, HasLent, HasReadWell, HasReadAll, HasFailed}
 use Rattle.pool_file_format.specs.declared.refusal.Refusal.TheVariants as refusal
 use Rattle.pool_file_format.specs.declared.fault.Fault.TheVariants as fault
 use Rattle.pool_file_format.specs.Lengths.{Read, bytes_at}
@@ -47,6 +47,13 @@ reads_whole bound a b room had small giving few = record {
   blames = λ fits. record { asked = asked_by 0 a b room had (omega (arith, giving)); small = small };
   few = few;
 }
+
+-- The reader lent them.
+pub reads_lent : (bound n : ℕ) (a b : Device) (bytes : List ℕ) → HasLent a n b bytes → AreBytes bytes → ReadsValue bound (bytes_at n) a (Ok bytes) b
+reads_lent bound n a b bytes lent small =
+    let calls = lent.calls in
+    subst (λ (m : ℕ). ReadsValue bound (bytes_at m) a (Ok bytes) b) lent.size
+    (reads_whole bound a b bytes lent.read small (omega (arith, calls)) (λ few. omega (arith, calls, few)))
 
 -- The reader was at its end before that.
 pub reads_short : (bound : ℕ) (a b : Device) (n : ℕ) (front : List ℕ) → HasReadAll a b front → length front < n → b.calls ≤ a.calls + length front + 1

@@ -9,7 +9,7 @@ use Rattle.pool_file_format.specs.declared.listed.Listed.{Listed}
 use Rattle.pool_file_format.specs.Format.{RawObject, RawRef, RawTenant, RawFile, body_text}
 
 abbrev pub object_of : Object → RawObject
-object_of o = record { kind = o.kind; bytes = o.bytes.items }
+object_of o = record { kind = o.kind; bytes = o.bytes }
 
 abbrev pub objects_of : List Object → List RawObject
 objects_of os = map object_of os

@@ -1,16 +1,17 @@
 //! Reading the parts of a file from a counted reader.
 
-ghost use Rattle.std.specs.Int.{w16, w64};
-ghost use Rattle.byte_devices.specs.Device.{device_of, seen};
-ghost use Rattle.pool_file_format.specs.Lengths.{byte_at, number_at, sized_at, many_at, counted_at};
-ghost use Rattle.pool_file_format.specs.Lengths.{object_at, ref_at, head_at, tenant_at};
+ghost use Rattle.std.specs.{Prelude.{◌≡◌}, Int.{w16, w64}};
+ghost use Rattle.byte_devices.specs.{Device.{device_of, seen}, Reading.{AreBytes}};
+ghost use Rattle.pool_file_format.specs.Lengths.{byte_at, bytes_at, number_at, sized_at, many_at};
+ghost use Rattle.pool_file_format.specs.Lengths.{counted_at, object_at, ref_at, head_at, tenant_at};
 ghost use Rattle.pool_file_format.specs.Shown.{object_of, objects_of, ref_of, refs_of, tenant_of};
 ghost use Rattle.pool_file_format.specs.{Shown.{tenants_of}, Taking.{shown, ReadsValue}};
 
 use crate::fault::Fault;
 use crate::filling::{fill, read_bytes, read_u16, read_u64};
 use crate::raw::{RawObject, RawRef, RawTenant};
-use byte_devices::Counted;
+use byte_devices::{Counted, Lending};
+use content_pool::Bytes;
 use std::alloc::Global;
 use std::io::Read;
 use tenant_refs::FIRST_HEAD;
@@ -36,18 +37,62 @@ fn read_short<R: Read>(alloc: Global, reader: &mut Counted<R>, bound: u64) -> Re
     read_bytes(alloc, reader, bound, count as u64)
 }
 
-// A length in eight bytes, and as many bytes.
-fn read_long<R: Read>(alloc: Global, reader: &mut Counted<R>, bound: u64) -> Result<Vec<u8>, Fault>
+// `count` bytes that the reader did not lend.
+fn read_owned<R: Read>(
+    alloc: Global,
+    reader: &mut Counted<R>,
+    bound: u64,
+    count: u64,
+) -> Result<Bytes, Fault>
+    ensures { ReadsValue bound (bytes_at count)
+        (seen (R.remaining (device_of reader.old)) reader.old) (shown (λ bytes. bytes) result)
+        (seen (R.remaining (device_of reader.new)) reader.new) }
+{
+    let items = read_bytes(alloc, reader, bound, count)?;
+    Ok(Bytes::taken(items))
+}
+
+// Contents that are lent.
+fn lent_contents(bytes: &'static [u8]) -> Bytes
+    ensures same { result ≡ bytes.now }
+    ensures small { AreBytes bytes.now }
+{
+    Bytes::lent(bytes)
+}
+
+// `count` bytes, lent by the reader or else read.
+fn read_contents<R: Read, L: Lending<R>>(
+    alloc: Global,
+    reader: &mut Counted<R>,
+    bound: u64,
+    count: u64,
+) -> Result<Bytes, Fault>
+    ensures { ReadsValue bound (bytes_at count)
+        (seen (R.remaining (device_of reader.old)) reader.old) (shown (λ bytes. bytes) result)
+        (seen (R.remaining (device_of reader.new)) reader.new) }
+{
+    match L::lend(reader, count) {
+        Some(bytes) => Ok(lent_contents(bytes)),
+        None => read_owned(alloc, reader, bound, count),
+    }
+}
+
+// The contents of an object, after their length in eight bytes.
+fn read_long<R: Read, L: Lending<R>>(
+    alloc: Global,
+    reader: &mut Counted<R>,
+    bound: u64,
+) -> Result<Bytes, Fault>
     ensures { ReadsValue bound (sized_at w64)
-        (seen (R.remaining (device_of reader.old)) reader.old) (shown (λ bytes. bytes.items) result)
+        (seen (R.remaining (device_of reader.old)) reader.old) (shown (λ bytes. bytes) result)
         (seen (R.remaining (device_of reader.new)) reader.new) }
 {
     let count = read_u64(reader, bound)?;
-    read_bytes(alloc, reader, bound, count)
+    read_contents::<R, L>(alloc, reader, bound, count)
 }
 
 // An object.
-fn read_object<R: Read>(
+fn read_object<R: Read, L: Lending<R>>(
     alloc: Global,
     reader: &mut Counted<R>,
     bound: u64,
@@ -57,12 +102,12 @@ fn read_object<R: Read>(
         (seen (R.remaining (device_of reader.new)) reader.new) }
 {
     let kind = read_byte(reader, bound)?;
-    let bytes = read_long(alloc, reader, bound)?;
+    let bytes = read_long::<R, L>(alloc, reader, bound)?;
     Ok(RawObject { kind, bytes })
 }
 
 // `count` objects.
-fn read_many_objects<R: Read>(
+fn read_many_objects<R: Read, L: Lending<R>>(
     alloc: Global,
     reader: &mut Counted<R>,
     bound: u64,
@@ -75,14 +120,14 @@ fn read_many_objects<R: Read>(
 {
     let mut objects = Vec::new(alloc);
     for _ in 0..count {
-        let object = read_object(alloc, reader, bound)?;
+        let object = read_object::<R, L>(alloc, reader, bound)?;
         objects.push(object)?;
     }
     Ok(objects)
 }
 
-/// All objects, after their count.
-pub fn read_objects<R: Read>(
+/// All objects, after their count. Their contents are lent if the reader lends them.
+pub fn read_objects<R: Read, L: Lending<R>>(
     alloc: Global,
     reader: &mut Counted<R>,
     bound: u64,
@@ -93,7 +138,7 @@ pub fn read_objects<R: Read>(
         (seen (R.remaining (device_of reader.new)) reader.new) }
 {
     let count = read_u64(reader, bound)?;
-    read_many_objects(alloc, reader, bound, count)
+    read_many_objects::<R, L>(alloc, reader, bound, count)
 }
 
 // `count` numbers.

@@ -23,6 +23,6 @@ pub use digesting::{DigestState, StreamingDigest};
 pub use fault::Fault;
 pub use listed::LentObject;
 pub use raw::{RawFile, RawObject, RawRef, RawTenant};
-pub use reading::{READS_LIMIT, read_file};
+pub use reading::{READS_LIMIT, read_file, read_file_by};
 pub use refusal::Refusal;
-pub use sealing::{digest_of, read_sealed, write_lent, write_sealed};
+pub use sealing::{digest_of, read_sealed, read_sealed_by, write_lent, write_sealed};

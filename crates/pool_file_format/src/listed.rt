@@ -36,7 +36,7 @@ impl Printed for RawObject {
     }
 
     fn contents(&self) -> &[u8] {
-        &self.bytes
+        self.bytes.as_slice()
     }
 }
 

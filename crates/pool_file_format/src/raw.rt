@@ -1,10 +1,13 @@
 //! The raw values of a file, as they were read or will be written.
 
-/// An object: the byte of its kind (commit 1, tree 2, blob 3, tag 4), and its contents.
+use content_pool::Bytes;
+
+/// An object: the byte of its kind (commit 1, tree 2, blob 3, tag 4), and its contents, owned or
+/// lent.
 #[derive(Drop)]
 pub struct RawObject {
     pub kind: u8,
-    pub bytes: Vec<u8>,
+    pub bytes: Bytes,
 }
 
 /// A ref: its full name with the namespaces of its tenant, and the position of its target among the

@@ -12,7 +12,7 @@ use crate::fields::{read_byte, read_objects, read_tenants};
 use crate::filling::{fill, read_u32};
 use crate::raw::RawFile;
 use crate::refusal::Refusal;
-use byte_devices::Counted;
+use byte_devices::{Copied, Counted, Lending};
 use std::alloc::Global;
 use std::io::Read;
 
@@ -67,14 +67,18 @@ fn read_version<R: Read>(reader: &mut Counted<R>, bound: u64) -> Result<u32, Fau
 }
 
 // Everything before the digest.
-fn read_body<R: Read>(alloc: Global, reader: &mut Counted<R>, bound: u64) -> Result<RawFile, Fault>
+fn read_body<R: Read, L: Lending<R>>(
+    alloc: Global,
+    reader: &mut Counted<R>,
+    bound: u64,
+) -> Result<RawFile, Fault>
     ensures { ReadsValue bound body_at
         (seen (R.remaining (device_of reader.old)) reader.old) (shown file_of result)
         (seen (R.remaining (device_of reader.new)) reader.new) }
 {
     read_front(reader, bound, MAGIC)?;
     let version = read_version(reader, bound)?;
-    let objects = read_objects(alloc, reader, bound)?;
+    let objects = read_objects::<R, L>(alloc, reader, bound)?;
     let tenants = read_tenants(alloc, reader, bound, version)?;
     Ok(RawFile {
         version,
@@ -111,7 +115,7 @@ fn read_end<R: Read>(reader: &mut Counted<R>, bound: u64) -> Result<(), Fault>
 }
 
 // A file, and the digest after it.
-fn read_whole<R: Read>(
+fn read_whole<R: Read, L: Lending<R>>(
     alloc: Global,
     reader: &mut Counted<R>,
     bound: u64,
@@ -121,7 +125,7 @@ fn read_whole<R: Read>(
         (shown (λ whole. (file_of whole.0, whole.1)) result)
         (seen (R.remaining (device_of reader.new)) reader.new) }
 {
-    let file = read_body(alloc, reader, bound)?;
+    let file = read_body::<R, L>(alloc, reader, bound)?;
     let digest = read_digest(reader, bound)?;
     read_end(reader, bound)?;
     Ok((file, digest))
@@ -146,7 +150,20 @@ pub fn read_file<R: Read>(
         (shown (λ whole. (file_of whole.0, whole.1)) result)
         (seen (R.remaining (device_of reader.new)) reader.new) }
 {
+    read_file_by::<R, Copied>(alloc, reader)
+}
+
+/// `read_file` with contents that are lent, if `L` lends them; they are not copied then.
+pub fn read_file_by<R: Read, L: Lending<R>>(
+    alloc: Global,
+    reader: &mut Counted<R>,
+) -> Result<(RawFile, [u8; 20]), Fault>
+    ensures { ReadsAll (counted_on (calls_of reader.old) reads_limit) by_lengths
+        (seen (R.remaining (device_of reader.old)) reader.old)
+        (shown (λ whole. (file_of whole.0, whole.1)) result)
+        (seen (R.remaining (device_of reader.new)) reader.new) }
+{
     let _passed = reader.passed();
     let bound = reader.calls().saturating_add(READS_LIMIT);
-    read_whole(alloc, reader, bound)
+    read_whole::<R, L>(alloc, reader, bound)
 }

@@ -14,10 +14,10 @@ use crate::gathering::{Buffered, HashingWriter};
 use crate::listed::{LentObject, Listed, Printed};
 use crate::printing::put_body;
 use crate::raw::{RawFile, RawObject, RawTenant};
-use crate::reading::read_file;
+use crate::reading::read_file_by;
 use crate::refusal::Refusal;
 use crate::sink::Sink;
-use byte_devices::{Counted, DeviceFault};
+use byte_devices::{Copied, Counted, DeviceFault, Lending};
 use std::alloc::Global;
 use std::io::{Read, Write};
 
@@ -72,7 +72,20 @@ pub fn read_sealed<N: StreamingDigest, R: Read>(
         (seen (R.remaining (device_of reader.old)) reader.old) (shown file_of result)
         (seen (R.remaining (device_of reader.new)) reader.new) }
 {
-    let (file, digest) = read_file(alloc, reader)?;
+    read_sealed_by::<N, R, Copied>(alloc, naming, reader)
+}
+
+/// `read_sealed` with contents that are lent, if `L` lends them; they are not copied then.
+pub fn read_sealed_by<N: StreamingDigest, R: Read, L: Lending<R>>(
+    alloc: Global,
+    naming: &N,
+    reader: &mut Counted<R>,
+) -> Result<RawFile, Fault>
+    ensures { ReadsAll (counted_on (calls_of reader.old) reads_limit) (sealed_at N.digest_of)
+        (seen (R.remaining (device_of reader.old)) reader.old) (shown file_of result)
+        (seen (R.remaining (device_of reader.new)) reader.new) }
+{
+    let (file, digest) = read_file_by::<R, L>(alloc, reader)?;
     let own = digest_of(naming, &file);
     if !is_same(&digest, &own) {
         return Err(Fault::Refused(Refusal::WrongDigest));

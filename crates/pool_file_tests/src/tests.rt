@@ -4,6 +4,7 @@ mod alike;
 mod files;
 mod indexed;
 mod judged;
+mod lending;
 mod lent;
 mod lines;
 mod objects;

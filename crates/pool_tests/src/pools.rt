@@ -3,12 +3,14 @@
 
 mod plain_pool;
 
-ghost use Rattle.std.specs.Prelude.{◌≡◌, ℕ, ◌+◌, ◌<◌, ◌≤◌, IfOk};
-ghost use Rattle.content_pool.specs.Pool.{HasHoldsLeft, IsVacant, holds};
+ghost use Rattle.std.specs.Prelude.{◌≡◌, ℕ, ◌+◌, ◌<◌, ◌≤◌, IfOk, OnErr};
+ghost use Rattle.git_model.specs.Content.{content_from};
+ghost use Rattle.git_model.specs.declared.kind.Kind.TheVariants as kind;
+ghost use Rattle.content_pool.specs.Pool.{HasHoldsLeft, IsVacant, Puts, holds};
 
-use content_pool::{Pool, Slot};
+use content_pool::{Bytes, Pool, Slot};
 use git_model::Kind;
-use git_objects::{Memory, Naming, Sha1Naming, TailNaming};
+use git_objects::{Memory, Name, Naming, Sha1Naming, TailNaming};
 use plain_pool::PlainPool;
 use std::alloc::Global;
 use std::test::Fail;
@@ -39,31 +41,32 @@ fn of_hello(pool: &mut Pool<Sha1Naming>) -> Result<([u8; 40], bool, Sizes), Memo
     Ok((id.to_hex(), is_same, pool.stored()))
 }
 
-// Holds one content four times, each time by another call, and answers its one slot.
-fn held_in_four_ways(alloc: Global, pool: &mut Pool<Sha1Naming>) -> Result<Slot, Fail>
+// Holds one content five times, each time by another call, and answers its one slot.
+fn held_in_five_ways(alloc: Global, pool: &mut Pool<Sha1Naming>) -> Result<Slot, Fail>
     requires { IsVacant pool.old }
-    ensures { IfOk result (λ slot. holds pool.new slot ≡ 4) }
+    ensures { IfOk result (λ slot. holds pool.new slot ≡ 5) }
 {
     let (slot, id) = pool.put(Kind::Blob, b"a")?;
     let (again, _) = pool.put(Kind::Blob, b"a")?;
     let owned = Vec::from_slice(alloc, b"a")?;
     let taken = pool.put_owned(id, Kind::Blob, owned)?;
-    if again != slot || taken != slot {
+    let lent = pool.put_bytes(id, Kind::Blob, Bytes::lent(b"a"))?;
+    if again != slot || taken != slot || lent != slot {
         return Err(Fail::from("two slots for one content"));
     }
     pool.hold(slot);
     Ok(slot)
 }
 
-// Whether a content that is held four times stays until its last release.
+// Whether a content that is held five times stays until its last release.
 fn keeps_a_content_until_its_last_release(
     alloc: Global,
     pool: &mut Pool<Sha1Naming>,
 ) -> Result<bool, Fail>
     requires { IsVacant pool.old }
 {
-    let slot = held_in_four_ways(alloc, pool)?;
-    for _ in 0..3u32 {
+    let slot = held_in_five_ways(alloc, pool)?;
+    for _ in 0..4u32 {
         pool.release(slot);
         if pool.stored() != (1, 1) {
             return Ok(false);
@@ -177,8 +180,15 @@ fn answers_as_the_plain_pool_does(rt: HostRuntime) -> Result<(), Fail> {
     Ok(())
 }
 
-// Contents of two names, some of them twice.
-const PUT: &[&[u8]] = &[b"ab", b"ba", b"cd", b"ab", b"dc", b"ba"];
+// Contents of two names, some of them twice, and whether each is lent.
+const PUT: &[(&[u8], bool)] = &[
+    (b"ab", true),
+    (b"ba", false),
+    (b"cd", true),
+    (b"ab", false),
+    (b"dc", false),
+    (b"ba", true),
+];
 
 // Whether both answer the same when these contents are put, and then hold four of two bytes.
 fn answer_alike(
@@ -188,8 +198,8 @@ fn answer_alike(
     requires vacant { IsVacant pool.old }
     requires plain_vacant { IsVacant plain.old }
 {
-    for bytes in PUT {
-        if !put_alike(pool, plain, bytes)? {
+    for (bytes, is_lent) in PUT {
+        if !put_alike(pool, plain, bytes, *is_lent)? {
             return Ok(false);
         }
     }
@@ -200,17 +210,38 @@ fn answer_alike(
 fn put_alike(
     pool: &mut Pool<TailNaming>,
     plain: &mut PlainPool<TailNaming>,
-    bytes: &[u8],
+    bytes: &'static [u8],
+    is_lent: bool,
 ) -> Result<bool, Memory>
     requires room { HasHoldsLeft pool.old }
     requires plain_room { HasHoldsLeft plain.old }
     ensures one { (s : ℕ) → holds pool.new s ≤ holds pool.old s + 1 }
     ensures plain_one { (s : ℕ) → holds plain.new s ≤ holds plain.old s + 1 }
 {
-    let (slot, id) = pool.put(Kind::Blob, bytes)?;
+    let (slot, id) = put_as(pool, bytes, is_lent)?;
     let (position, plain_id) = plain.put(Kind::Blob, bytes)?;
     let is_same = id == plain_id && pool.stored() == plain.stored();
-    Ok(is_same && pool.get(slot) == plain.get(position))
+    let is_lent_again = pool.lend_again(slot, bytes) && !pool.lend_again(slot, b"no");
+    Ok(is_same && is_lent_again && pool.get(slot) == plain.get(position))
+}
+
+// Puts these bytes as a blob, lent or copied.
+fn put_as(
+    pool: &mut Pool<TailNaming>,
+    bytes: &'static [u8],
+    is_lent: bool,
+) -> Result<(Slot, Name), Memory>
+    requires { HasHoldsLeft pool.old }
+    ensures puts { IfOk result
+        (λ r. Puts pool.old pool.new r.0 (content_from kind.Blob bytes.now)) }
+    ensures err { OnErr result (pool.new ≡ pool.old) }
+{
+    if !is_lent {
+        return pool.put(Kind::Blob, bytes);
+    }
+    let id = pool.name_of(Kind::Blob, bytes)?;
+    let slot = pool.put_bytes(id, Kind::Blob, Bytes::lent(bytes))?;
+    Ok((slot, id))
 }
 
 fn new_pools_answer_alike(alloc: Global) -> Result<bool, Memory> {

@@ -1,5 +1,6 @@
 -- Tenants that were loaded make a service, which has just their repositories.
-use Rattle.std.proofs.Common.{◌≡◌, ℕ, ◌+◌, Bool, true, false, cond, List, [], ◌∷◌, ◌++◌, map, Option, None, Some, Ok, refl, sym, ap, subst, ◌∙◌, true≢false, append_assoc}
+use Rattle.std.proofs.Common.{◌≡◌, ℕ, ◌+◌, Bool, true, false, cond, List, [], ◌∷◌, ◌++◌, map, Option, None, Some, Ok, Err, refl, sym, ap, subst, ◌∙◌, true≢false, append_assoc}
+use Rattle.std.specs.Global.{Vec}
 use Rattle.std.specs.List.{AllByRecursion, IsDistinct}
 use Rattle.std.specs.Map.{keys_of, lookup}
 use Rattle.std.specs.Option.{option_map, unwrap_or}
@@ -8,12 +9,15 @@ use Rattle.std.specs.declared.cmp.Ordering.TheVariants.{Less}
 use Rattle.std.proofs.lemmas.Cmp.{nat_list_cmp_total, tied_itself}
 use Rattle.std.proofs.lemmas.List.Sums.{sum_by-cons}
 use Rattle.std.proofs.lemmas.Slice.Eq.{bytes_eq-Decides}
+use Rattle.byte_devices.specs.Device.{Device}
 use Rattle.git_model.specs.Repository.{Repository}
 use Rattle.content_pool.specs.Pool.{Cells}
 use Rattle.tenant_refs.specs.TenantName.{is_tenant_name}
 use Rattle.tenant_tables.specs.View.{held}
 use Rattle.import_session.specs.Sound.{IsSoundRepository}
 use Rattle.session_laws.proofs.SoundLemmas.{empty_is_sound}
+use Rattle.pool_file_format.specs.declared.fault.Fault.{Fault}
+use Rattle.pool_file_format.specs.declared.fault.Fault.TheVariants as fault
 use Rattle.pool_file_checks.specs.FileRefs.{AreRising}
 use Rattle.pool_file_checks.specs.Repositories.{Named}
 use Rattle.pool_file_checks.specs.Saving.{IsGood}
@@ -22,11 +26,12 @@ use Rattle.pool_file_checks.proofs.Rising.{rising_first, rising_rest}
 use Rattle.pool_file.specs.Loading as loading
 use Rattle.pool_file.specs.Loading.{loaded_repositories, named_in, AreTenants, IsTenant}
 use Rattle.pool_file.specs.declared.tenant.Tenant.{Tenant as Loaded}
+use Rattle.pool_file.proofs.Answered.{blamed_ok, blamed_err, blamed_memory}
 use Rattle.tenant_service.specs.declared.tenant.Tenant.{Tenant}
 use Rattle.tenant_service.specs.Alone.{Closed}
 use Rattle.tenant_service.specs.Entries.{entry_of, AreAll}
 use Rattle.tenant_service.specs.TenantState.{TenantState, Idle, empty_repository}
-use Rattle.tenant_service.specs.Saved.{repository_of, HasJust, LoadsAs, LoadsText, LoadsEach}
+use Rattle.tenant_service.specs.Saved.{repository_of, HasJust, LoadsAs, LoadsText, LoadsEach, Loads}
 use Rattle.tenant_service.specs.Tenants.{Tenants, Stands, Accounts, IsService, holding_in, holdings, all_held}
 
 -- ---- what is held
@@ -202,24 +207,85 @@ all-next taken more t rest all are is =
 
 -- ---- what is answered
 
-pub loads-as : (digest : List ℕ → List ℕ) (known new : Option (List ℕ)) (p : Cells)
+loads-as : (digest : List ℕ → List ℕ) (known new : Option (List ℕ)) (p : Cells)
     (ts : List Loaded) → loading.LoadsAs digest known (Ok (loaded_repositories p ts)) new
     → LoadsAs digest known (Ok (holdings p (map entry_of ts))) new
 loads-as digest None new p ts h = tt
 loads-as digest (Some bytes) new p ts h =
     (record { all = loaded_repositories p ts; read = h.0; has = has-loaded p ts }, h.1)
 
-pub loads-text : (digest : List ℕ → List ℕ) (known : Option (List ℕ)) (p : Cells)
+loads-text : (digest : List ℕ → List ℕ) (known : Option (List ℕ)) (p : Cells)
     (ts : List Loaded) → loading.LoadsText digest known (Ok (loaded_repositories p ts))
     → LoadsText digest known (Ok (holdings p (map entry_of ts)))
 loads-text digest None p ts h = tt
 loads-text digest (Some bytes) p ts h =
     record { all = loaded_repositories p ts; text = h; has = has-loaded p ts }
 
-pub loads-each : (digest : List ℕ → List ℕ) (known : Option (List ℕ)) (p : Cells)
+loads-each : (digest : List ℕ → List ℕ) (known : Option (List ℕ)) (p : Cells)
     (ts : List Loaded) → loading.LoadsEach digest known (Ok (loaded_repositories p ts))
     → LoadsEach digest known (Ok (holdings p (map entry_of ts)))
 loads-each digest None p ts h = tt
 loads-each digest (Some bytes) p ts h = λ all text.
     rw (← (h all text))
     (has-loaded p ts)
+
+pub loads-service : (digest : List ℕ → List ℕ) (bound : ℕ) (old new : Device) (p : Cells)
+    (loaded : Vec Loaded) → loading.Loads digest bound old (Ok (p, loaded)) new
+    → Loads digest bound old (Ok (holdings p (map entry_of loaded.items))) new
+loads-service digest bound old new p loaded h = record {
+  exact = loads-as digest old.known new.known p loaded.items h.exact;
+  found = loads-text digest old.known p loaded.items h.found;
+  only = loads-each digest old.known p loaded.items h.only;
+  cause = blamed_ok bound old new (loaded_repositories p loaded.items) _ h.cause;
+}
+
+-- ---- a fault
+
+as-fault : (digest : List ℕ → List ℕ) (known new : Option (List ℕ)) (e : Fault)
+    → loading.LoadsAs digest known (Err e) new → LoadsAs digest known (Err e) new
+as-fault digest None new e h = tt
+as-fault digest (Some bytes) new (fault.Refused r) h = h
+as-fault digest (Some bytes) new fault.Device h = tt
+as-fault digest (Some bytes) new fault.Memory h = tt
+
+text-fault : (digest : List ℕ → List ℕ) (known : Option (List ℕ)) (e : Fault)
+    → LoadsText digest known (Err e)
+text-fault digest None e = tt
+text-fault digest (Some bytes) e = tt
+
+each-fault : (digest : List ℕ → List ℕ) (known : Option (List ℕ)) (e : Fault)
+    → loading.LoadsEach digest known (Err e) → LoadsEach digest known (Err e)
+each-fault digest None e h = tt
+each-fault digest (Some bytes) (fault.Refused r) h = λ all text. h all text
+each-fault digest (Some bytes) fault.Device h = λ all text. tt
+each-fault digest (Some bytes) fault.Memory h = λ all text. tt
+
+pub loads-fault : (digest : List ℕ → List ℕ) (bound : ℕ) (old new : Device) (e : Fault)
+    → loading.Loads digest bound old (Err e) new → Loads digest bound old (Err e) new
+loads-fault digest bound old new e h = record {
+  exact = as-fault digest old.known new.known e h.exact;
+  found = text-fault digest old.known e;
+  only = each-fault digest old.known e h.only;
+  cause = blamed_err bound old new e h.cause;
+}
+
+as-memory : (digest : List ℕ → List ℕ) (known new : Option (List ℕ))
+    → LoadsAs digest known (Err fault.Memory) new
+as-memory digest None new = tt
+as-memory digest (Some bytes) new = tt
+
+each-memory : (digest : List ℕ → List ℕ) (known : Option (List ℕ))
+    → LoadsEach digest known (Err fault.Memory)
+each-memory digest None = tt
+each-memory digest (Some bytes) = λ all text. tt
+
+-- What was loaded finds no room.
+pub loads-no-room : (digest : List ℕ → List ℕ) (bound : ℕ) (old new : Device)
+    (x : Cells × Vec Loaded) → loading.Loads digest bound old (Ok x) new
+    → Loads digest bound old (Err fault.Memory) new
+loads-no-room digest bound old new x h = record {
+  exact = as-memory digest old.known new.known;
+  found = text-fault digest old.known fault.Memory;
+  only = each-memory digest old.known;
+  cause = blamed_memory bound old new (loaded_repositories x.0 x.1.items) h.cause;
+}

@@ -3,13 +3,14 @@
 use Rattle.std.specs.Prelude.{◌≡◌, ℕ, List, [], map, Contains, Option, None, Some, unwrap_or, Result, Ok, Err}
 use Rattle.std.specs.Map.{lookup}
 use Rattle.std.specs.Str.{bytes_eq}
+use Rattle.byte_devices.specs.Device.{Device}
 use Rattle.git_model.specs.Content.{Content}
 use Rattle.git_model.specs.Repository.{Repository}
 use Rattle.pool_file_format.specs.declared.fault.Fault.{Fault}
 use Rattle.pool_file_format.specs.declared.fault.Fault.TheVariants as fault
 use Rattle.pool_file_checks.specs.Repositories.{Named}
 use Rattle.pool_file_checks.specs.Saving.{IsTextOf}
-use Rattle.pool_file_checks.specs.Judging.{IsRefused}
+use Rattle.pool_file_checks.specs.Judging.{IsRefused, IsBlamed}
 use Rattle.pool_file.specs.Loading.{AreRead}
 use Rattle.pool_file.specs.Worth.{worth_saving}
 use Rattle.tenant_service.specs.TenantState.{TenantState, TenantStates, Idle, empty_repository, held_of}
@@ -89,3 +90,15 @@ abbrev pub LoadsEach : (List ℕ → List ℕ) → Option (List ℕ) → Result 
 LoadsEach digest None r = Unit {0}
 LoadsEach digest (Some bytes) r =
     (all : List Named) → IsTextOf digest all bytes → IsAnswer all r
+
+-- What a load answers, and what it does to the reader.
+pub record Loads (digest : List ℕ → List ℕ) (bound : ℕ) (old : Device)
+    (r : Result TenantStates Fault) (new : Device) : Type 0 where
+  -- if the bytes of the reader are known: what they say, or the first refusal
+  pub exact : LoadsAs digest old.known r new.known
+  -- the bytes are a text of what the service has
+  pub found : LoadsText digest old.known r
+  -- each text of repositories gives a service that has them
+  pub only : LoadsEach digest old.known r
+  -- which calls are made, and when the device is blamed
+  pub cause : IsBlamed bound old r new

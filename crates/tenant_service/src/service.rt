@@ -40,12 +40,11 @@ ghost use Rattle.tenant_tables.specs.IsBackedBy.{IsBackedBy};
 
 use crate::by_places::copy_by_places;
 use crate::copying::{copy, copy_refusal};
-use crate::loading::tenants_of;
 use crate::saving::lend_all;
 use crate::sizes::{TenantSizes, sizes_of_saved};
 use crate::tenant::{Tenant, has_read_done};
 use crate::tenants::{count_committed, name_of, take_step};
-use byte_devices::Counted;
+use byte_devices::{Copied, Counted};
 use content_pool::Pool;
 use git_objects::{Memory, Naming};
 use indexmap::IndexMap;
@@ -381,12 +380,6 @@ impl<N: StreamingDigest> Service<N> {
             (seen (R.remaining (device_of reader.old)) reader.old) result
             (seen (R.remaining (device_of reader.new)) reader.new) }
     {
-        let (pool, loaded) = pool_file::load(alloc, naming, reader)?;
-        let tenants = tenants_of(alloc, loaded)?;
-        Ok(Service {
-            alloc,
-            pool,
-            tenants,
-        })
+        Service::load_by::<R, Copied>(alloc, naming, reader)
     }
 }

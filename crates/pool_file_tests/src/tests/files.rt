@@ -29,8 +29,8 @@ const WITHOUT_OBJECTS: &[u8] = b"gitpool\n\0\0\0\x01\
     \0\0\0\0\0\0\0\0\
     \xab\xab\xab\xab\xab\xab\xab\xab\xab\xab\xab\xab\xab\xab\xab\xab\xab\xab\xabI";
 
-// Version 1, and a byte after it.
-const ONE_BYTE_MORE: &[u8] = b"gitpool\n\0\0\0\x01\
+/// Version 1, and a byte after it.
+pub const ONE_BYTE_MORE: &[u8] = b"gitpool\n\0\0\0\x01\
     \0\0\0\0\0\0\0\x01\x03\0\0\0\0\0\0\0\x02ab\
     \0\0\0\0\0\0\0\x01\0\x01t\0\0\0\0\0\0\0\x01\0\0\0\0\0\0\0\0\
     \0\0\0\0\0\0\0\0\
@@ -100,8 +100,8 @@ fn is_written(alloc: Global, version: u32, wanted: &[u8]) -> Result<bool, Fault>
     Ok(printed(alloc, &TailNaming, &file)?.as_slice() == wanted)
 }
 
-// How many calls of `read` it takes to read version 1 from a slice.
-const READS: u64 = 21;
+/// How many calls of `read` it takes to read version 1 from a slice.
+pub const READS: u64 = 21;
 
 // A reader that fails at any of these calls is blamed, and one that fails later is not.
 fn are_readers_blamed(alloc: Global) -> bool {

@@ -4,6 +4,7 @@
 use super::files::VERSION_2;
 use super::parts::printed;
 use byte_devices::{Counted, DeviceFault, FailingWriter};
+use content_pool::Bytes;
 use git_names::TailNaming;
 use pool_file_format::{Fault, LentObject, RawFile, RawObject, read_sealed, write_lent};
 use std::alloc::{AllocError, Global};
@@ -14,7 +15,7 @@ fn lent_of<'a>(alloc: Global, objects: &'a [RawObject]) -> Result<Vec<LentObject
     for object in objects {
         lent.push(LentObject {
             kind: object.kind,
-            bytes: &object.bytes,
+            bytes: object.bytes.as_slice(),
         })?;
     }
     Ok(lent)
@@ -64,7 +65,7 @@ fn are_fronts_written(alloc: Global) -> Result<bool, Fault> {
 }
 
 fn push_large(alloc: Global, objects: &mut Vec<RawObject>, size: usize) -> Result<(), Fault> {
-    let bytes = Vec::from_elem(alloc, 7, size)?;
+    let bytes = Bytes::taken(Vec::from_elem(alloc, 7, size)?);
     objects.push(RawObject { kind: 3, bytes })?;
     Ok(())
 }

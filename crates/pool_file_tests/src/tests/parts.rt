@@ -1,6 +1,7 @@
 //! What the tests of pool files share: the parts of a file, and the number of an answer.
 
 use byte_devices::Counted;
+use content_pool::Bytes;
 use git_names::{Name, Naming};
 use pool_file_checks::name_objects;
 use pool_file_format::{Fault, RawFile, RawObject, RawTenant, StreamingDigest, write_sealed};
@@ -23,7 +24,7 @@ pub fn push_object(
     kind: u8,
     bytes: &[u8],
 ) -> Result<(), Fault> {
-    let bytes = Vec::from_slice(alloc, bytes)?;
+    let bytes = Bytes::taken(Vec::from_slice(alloc, bytes)?);
     objects.push(RawObject { kind, bytes })?;
     Ok(())
 }

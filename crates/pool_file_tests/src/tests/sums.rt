@@ -5,6 +5,7 @@ use super::indexed::{
     are_judged_so,
 };
 use super::parts::code_of;
+use content_pool::Bytes;
 use git_names::{Kind, Name, Sha1Naming, name_of};
 use indexmap::IndexMap;
 use pool_file_checks::check_sums;
@@ -121,6 +122,7 @@ struct Grown {
 }
 
 fn add_object(grown: &mut Grown, id: Name, bytes: Vec<u8>) -> Result<(), Fault> {
+    let bytes = Bytes::taken(bytes);
     grown.objects.push(RawObject { kind: 2, bytes })?;
     grown.index.insert(id, grown.index.len())?;
     grown.below = id;

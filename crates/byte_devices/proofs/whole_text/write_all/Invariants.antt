@@ -1,5 +1,4 @@
-use Rattle.std.proofs.Common.{◌≡◌, ◌++◌, List, ℕ, length}
-use Rattle.std.specs.Io.KnownBytes.{Appends}
+use Rattle.std.proofs.Common.{◌≡◌, length}
 use Rattle.byte_devices.specs.Device.{device_of, faults_of}
 use Rattle.byte_devices.proofs.whole_text.write_all.Given as goal
 use Rattle.byte_devices.proofs.WrittenSoFar.{IsWrittenSoFar}

@@ -8,7 +8,7 @@ use Rattle.pool_file_checks.proofs.naming.content_at.Goals as goal
 pub returns-in-Some : goal.returns-in-Some
 returns-in-Some c =
     let l = c.in-Some.ensures.lookup in
-    rw (c.kind_of.ensures, c.as_slice.ensures.value)
+    rw (c.kind_of.ensures, c.as_slice.ensures)
     (ap (λ (o : Read). content_of (object_of o)) l.1 ∙ content_within c.args.objects.now c.args.number c.in-Some.object.now l.3.0)
 
 pub returns-in-None : goal.returns-in-None

@@ -11,7 +11,7 @@ loop-object-preserved g c =
     rw c.in_ok-push.ensures.items
     (named_on g.N.Naming.digest_of c.args.objects.now i (i + 1) c.object-item.result c.loop-object.names.items c.in_ok-id.id
     (omega arith) c.loop-object-test.true c.object-item.is c.loop-object.invariant
-    (rw (sym c.kind_of.ensures, sym c.deref.ensures.value) c.in_ok-id.ensures))
+    (rw (sym c.kind_of.ensures, sym c.as_slice.ensures) c.in_ok-id.ensures))
 
 pub returns : goal.returns
 returns g c = c.loop-object.invariant ∙ ap (λ (os : List Read). names_of g.N.Naming.digest_of (objects_of os))

@@ -6,4 +6,4 @@ pub returns-in_err-count : goal.returns-in_err-count
 returns-in_err-count g c = stops _ _ _ c.from_residual.ensures.1 (sized_fails w64 c.in_err-count.ensures)
 
 pub returns : goal.returns
-returns g c = sized_reads w64 c.in_ok-count.ensures c.read_bytes.ensures
+returns g c = sized_reads w64 c.in_ok-count.ensures c.read_contents.ensures
