@@ -14,6 +14,7 @@ import (
 	"io"
 	"os"
 	"os/exec"
+	"os/user"
 	"path/filepath"
 	"strconv"
 	"strings"
@@ -21,11 +22,15 @@ import (
 	"golang.org/x/crypto/ssh"
 
 	"gitpoold/access"
+	"gitpoold/audit"
+	"gitpoold/backups"
 	"gitpoold/hooks"
 	"gitpoold/limits"
 	"gitpoold/lists"
 	"gitpoold/operator"
+	"gitpoold/regular"
 	"gitpoold/shards"
+	"gitpoold/store"
 )
 
 // program finds `gitpool`: as the flag says, as GITPOOL says, beside this program, at the top of the checkout in which this program was
@@ -54,6 +59,8 @@ func program(flag string) (string, error) {
 // listed are the lists of a folder, and what `init` writes into each.
 var listed = []struct{ name, comment string }{
 	{"access", "# USER PATTERN RIGHT: the user * is everyone; a pattern is acme/site, acme/* or *; a right is r or rw."},
+	{"groups", "# @GROUP MEMBER: a member is a user or another group; `gitpoold group` changes them."},
+	{"tokens", "# TOKEN HASH UNTIL RIGHT PATTERN: `gitpoold token` changes them."},
 	{"passwords", "# USER HASH: `gitpoold user` changes them."},
 	{"keys", "# USER TYPE KEY: `gitpoold user` changes them."},
 	{"limits", "# NAME VALUE, quota TENANT VALUE, or daily-bytes USER VALUE: `gitpoold limits` lists and sets them."},
@@ -95,6 +102,9 @@ func runInit(l line) error {
 	if err := os.MkdirAll(folder, 0o700); err != nil {
 		return err
 	}
+	if err := isOurs(folder); err != nil {
+		return err
+	}
 	logs, err := logOptions(l)
 	if err != nil {
 		return err
@@ -115,6 +125,20 @@ func runInit(l line) error {
 		}
 	}
 	return nil
+}
+
+// isOurs asks that a folder belongs to who runs this: its server could not open what another user makes there.
+func isOurs(folder string) error {
+	id, _, err := regular.Owner(folder)
+	if err != nil || id == os.Geteuid() {
+		return err
+	}
+	name := strconv.Itoa(id)
+	if found, err := user.LookupId(name); err == nil {
+		name = found.Username
+	}
+	return fmt.Errorf("%s belongs to the user %s, whose server could not open what another user makes there; run this as that user: "+
+		"runuser -u %s -- gitpoold init %s", folder, name, name, folder)
 }
 
 // hostKeys are the files of the ssh server's keys. Each client takes the one that it knows or prefers: older ones, as of Java, know no ed25519.
@@ -192,22 +216,51 @@ func createHostKey(path string, make func() (crypto.Signer, error)) error {
 	return createFile(path+".pub", string(ssh.MarshalAuthorizedKey(key)))
 }
 
-// runUser gives a user a password or keys.
+// change lets a command change a list. The audit has it before, and a running server has read the list afterwards; else it is an error.
+func change(l line, list string, do func() error, more ...string) error {
+	folder, who := l.folder(), audit.Self()
+	what := strings.Join(append(append([]string{l.name()}, l.words[1:len(l.words)-1]...), more...), " ")
+	isNoted := false
+	lists.Before = func() (err error) {
+		if !isNoted {
+			err = audit.Note(folder, who, what, nil)
+			isNoted = err == nil
+		}
+		return err
+	}
+	err := do()
+	if err == nil {
+		return operator.Confirm(folder, socket(l), list, what)
+	}
+	if isNoted {
+		if unwritten := audit.Note(folder, who, what, err); unwritten != nil {
+			fmt.Fprintf(os.Stderr, "gitpoold: the audit cannot be written: %v\n", unwritten)
+		}
+	}
+	return err
+}
+
+// runUser gives a user a password or keys, or takes a key away.
 func runUser(l line) error {
 	user := l.words[1]
+	if wanted, has := l.flags["--remove-key"]; has {
+		return change(l, "access", func() error { return access.RemoveKey(l.folder(), user, wanted) }, "without", wanted)
+	}
 	if path, has := l.flags["--key"]; has {
 		text, err := os.ReadFile(path)
 		if err != nil {
 			return err
 		}
-		_, err = access.AddKeys(l.folder(), user, text)
-		return err
+		return change(l, "access", func() error {
+			_, err := access.AddKeys(l.folder(), user, text)
+			return err
+		}, access.Fingerprints(text)...)
 	}
 	password, err := readPassword()
 	if err != nil {
 		return err
 	}
-	return access.SetPassword(l.folder(), user, password)
+	return change(l, "access", func() error { return access.SetPassword(l.folder(), user, password) }, "password")
 }
 
 // readPassword reads a line from standard input; from a terminal without showing it.
@@ -233,8 +286,20 @@ func stty(word string) error {
 	return command.Run()
 }
 
+// runGrant lets a user do something. One who has no password and no key may be a name that was mistyped.
 func runGrant(l line) error {
-	return access.Grant(l.folder(), l.words[1], l.words[2], l.words[3])
+	user, pattern, right := l.words[1], l.words[2], l.words[3]
+	if err := access.CheckGrant(user, pattern, right); err != nil {
+		return err
+	}
+	isKnown, err := access.IsKnown(l.folder(), user)
+	if err == nil && !isKnown {
+		err = fmt.Errorf("there is no user or group %s; `gitpoold user` and `gitpoold group` make them", user)
+	}
+	if err != nil {
+		return err
+	}
+	return change(l, "access", func() error { return access.Grant(l.folder(), user, pattern, right) })
 }
 
 func runRevoke(l line) error {
@@ -242,26 +307,101 @@ func runRevoke(l line) error {
 	if len(l.words) == 4 {
 		pattern = l.words[2]
 	}
-	return access.Revoke(l.folder(), l.words[1], pattern)
+	return change(l, "access", func() error { return access.Revoke(l.folder(), l.words[1], pattern) })
 }
 
 // runBlock blocks a user or a tenant, or lists the blocks.
 func runBlock(l line) error {
 	words := append(l.words[1:len(l.words)-1:len(l.words)-1], "")
 	if len(words) >= 3 {
-		return access.Block(l.folder(), words[0], words[1], words[2])
+		return change(l, "access", func() error { return access.Block(l.folder(), words[0], words[1], words[2]) })
 	}
 	if len(words) == 2 {
 		return errors.New("say `user NAME` or `tenant NAME`")
 	}
-	all, err := access.Blocks(l.folder())
+	return printLines(access.Blocks(l.folder()))
+}
+
+func runUnblock(l line) error {
+	return change(l, "access", func() error { return access.Unblock(l.folder(), l.words[1], l.words[2]) })
+}
+
+// runGroup lists the groups, or changes one.
+func runGroup(l line) error {
+	words := l.words[1 : len(l.words)-1]
+	switch {
+	case len(words) == 0:
+		return printLines(access.Members(l.folder()))
+	case len(words) == 3 && words[0] == "add":
+		return change(l, "access", func() error { return addMember(l.folder(), words[1], words[2]) })
+	case len(words) == 3 && words[0] == "remove":
+		return change(l, "access", func() error { return access.RemoveMember(l.folder(), words[1], words[2]) })
+	}
+	return errors.New("say `add @GROUP MEMBER` or `remove @GROUP MEMBER`")
+}
+
+// addMember puts somebody into a group who is known.
+func addMember(folder, group, member string) error {
+	isKnown, err := access.IsKnown(folder, member)
+	if err == nil && !isKnown && access.ValidUser(member) {
+		err = fmt.Errorf("there is no user %s; `gitpoold user` makes one", member)
+	}
+	if err != nil {
+		return err
+	}
+	return access.AddMember(folder, group, member)
+}
+
+// runToken lists the tokens, makes one, or takes one away.
+func runToken(l line) error {
+	words := l.words[1 : len(l.words)-1]
+	switch {
+	case len(words) == 0:
+		return printLines(access.Tokens(l.folder()))
+	case len(words) == 5 && words[0] == "add":
+		return addToken(l, words[1], words[2], words[3], words[4])
+	case len(words) == 2 && words[0] == "remove":
+		return change(l, "access", func() error { return access.RemoveToken(l.folder(), words[1]) })
+	}
+	return errors.New("say `add USER PATTERN r|rw END` or `remove TOKEN`")
+}
+
+// addToken makes a token, and shows its secret, which is not to be had again.
+func addToken(l line, user, pattern, right, end string) error {
+	until, err := access.ParseEnd(end)
+	if err != nil {
+		return err
+	}
+	isKnown, err := access.IsKnown(l.folder(), user)
+	if err == nil && (!isKnown || !access.ValidUser(user)) {
+		err = fmt.Errorf("there is no user %s; `gitpoold user` makes one", user)
+	}
+	if err != nil {
+		return err
+	}
+	login, secret, err := access.NewToken(user)
+	if err != nil {
+		return err
+	}
+	err = change(l, "access", func() error { return access.AddToken(l.folder(), login, secret, pattern, right, until) }, login)
+	if err == nil {
+		fmt.Printf("%s %s\n", login, secret)
+	}
+	return err
+}
+
+// runUsers lists the users.
+func runUsers(l line) error { return printLines(access.Users(l.folder())) }
+
+func printLines(all []string, err error) error {
 	for _, it := range all {
 		fmt.Println(it)
 	}
 	return err
 }
 
-func runUnblock(l line) error { return access.Unblock(l.folder(), l.words[1], l.words[2]) }
+// runAudit prints what operators changed.
+func runAudit(l line) error { return audit.Print(l.folder(), os.Stdout) }
 
 // runLimits lists the limits, or sets one.
 func runLimits(l line) error {
@@ -271,7 +411,7 @@ func runLimits(l line) error {
 		return fmt.Errorf("`%s` has no value", words[0])
 	}
 	if len(words) > 1 {
-		return limits.Set(path, words...)
+		return change(l, "limits", func() error { return limits.Set(path, words...) })
 	}
 	rows, err := limits.Rows(path)
 	for _, row := range rows {
@@ -289,23 +429,69 @@ func runHooks(l line) error {
 	words := l.words[1 : len(l.words)-1]
 	switch {
 	case len(words) == 3 && words[0] == "add":
-		return hooks.Add(l.folder(), words[1], words[2])
+		return change(l, "hooks", func() error { return hooks.Add(l.folder(), words[1], words[2]) })
 	case len(words) == 3 && words[0] == "remove":
-		return hooks.Remove(l.folder(), words[1], words[2])
+		return change(l, "hooks", func() error { return hooks.Remove(l.folder(), words[1], words[2]) })
 	case len(words) > 0:
 		return errors.New("say `add PATTERN WHERE` or `remove PATTERN WHERE`")
 	}
-	rows, err := hooks.Rows(l.folder())
-	for _, row := range rows {
-		fmt.Println(row)
+	return printLines(hooks.Rows(l.folder()))
+}
+
+// runBackup keeps what a folder has in a folder of backups, as of a moment while its server runs, or as it is while none does.
+func runBackup(l line) error {
+	folder, to, keep := l.folder(), l.words[1], 1
+	if text, has := l.flags["--keep"]; has {
+		var err error
+		if keep, err = strconv.Atoi(text); err != nil || keep < 1 {
+			return fmt.Errorf("`--keep %s` is no number above 0", text)
+		}
+	}
+	if backups.Below(to, folder) || backups.Below(folder, to) {
+		return errors.New("backups stand beside the server's folder, and not in it")
+	}
+	source, end, err := operator.Moment(socket(l))
+	if errors.Is(err, operator.ErrNoServer) {
+		source = folder
+		end, err = holdAll(folder)
+	}
+	if err != nil {
+		return err
+	}
+	defer end()
+	name, err := backups.Make(source, to, keep)
+	if err == nil {
+		fmt.Println(name)
+	}
+	return err
+}
+
+// holdAll keeps servers from a folder, and other commands from its lists, until the call that it gives.
+func holdAll(folder string) (release func(), err error) {
+	held, err := store.Hold(folder)
+	if err != nil {
+		return nil, err
+	}
+	unlock, err := lists.Lock(folder)
+	if err != nil {
+		held()
+		return nil, err
+	}
+	return func() { unlock(); held() }, nil
+}
+
+// runRestore makes a folder of a backup.
+func runRestore(l line) error {
+	name, err := backups.Restore(l.words[0], l.flags["--moment"], l.words[1])
+	if err == nil {
+		fmt.Println(name)
 	}
 	return err
 }
 
 // runCall sends a command to the running server.
 func runCall(l line) error {
-	name := l.words[len(l.words)-1]
-	text, err := operator.Call(socket(l), append([]string{name}, l.words[1:len(l.words)-1]...)...)
+	text, err := operator.Call(socket(l), append([]string{l.name()}, l.words[1:len(l.words)-1]...)...)
 	if errors.Is(err, operator.ErrNoServer) {
 		return fmt.Errorf("no server runs in %s; start one with `gitpoold serve`", l.folder())
 	}

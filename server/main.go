@@ -8,6 +8,7 @@ import (
 	"strings"
 	"syscall"
 
+	"gitpoold/backups"
 	"gitpoold/journal"
 	"gitpoold/lists"
 	"gitpoold/poolfile"
@@ -49,6 +50,9 @@ type line struct {
 // folder is the server's folder, which each command names first.
 func (l line) folder() string { return l.words[0] }
 
+// name is the command's own word, which stands behind the others.
+func (l line) name() string { return l.words[len(l.words)-1] }
+
 // logFlags are those of a journal in Redis, and switches the flags that have no value.
 var (
 	logFlags    = []string{"--log", "--log-wait", "--replicas", "--log-unsynced"}
@@ -60,11 +64,17 @@ func commands() []command {
 	return []command{
 		{"init", "DIR [--shards N] [--log ADDRESS ..]", "make a folder for a server, with --shards or several logs for its tenants in several pools, " +
 			"and with --log a log in Redis for the journal of each", 1, 1, append([]string{"--program", "--shards"}, logFlags...), runInit},
-		{"user", "DIR USER [--key FILE]", "give a user a password, read from standard input, or the keys of a file", 2, 2,
-			[]string{"--key"}, runUser},
+		{"user", "DIR USER [--key FILE | --remove-key FINGERPRINT]", "give a user a password, read from standard input, or the keys of a file, " +
+			"or take a key away", 2, 2, []string{"--key", "--remove-key", "--socket"}, runUser},
+		{"group", "DIR [add|remove @GROUP MEMBER]", "list the groups, or put a user or another group into a group, or take it out; " +
+			"a group may have grants", 1, 4, []string{"--socket"}, runGroup},
+		{"token", "DIR [add USER PATTERN r|rw END | remove TOKEN]", "list the tokens, or make one, which may do less than its user, " +
+			"until a day such as 2027-01-31 or for a time such as 90d; its name and secret are shown once", 1, 6, []string{"--socket"}, runToken},
+		{"users", "DIR", "list the users with their keys, grants and blocks", 1, 1, nil, runUsers},
 		{"grant", "DIR USER PATTERN r|rw", "let a user, or '*' for everyone, read or also write tenants: acme/site, 'acme/*' or '*'", 4, 4,
-			nil, runGrant},
-		{"revoke", "DIR USER [PATTERN]", "take a grant back; without a pattern all grants, the password and the keys", 2, 3, nil, runRevoke},
+			[]string{"--socket"}, runGrant},
+		{"revoke", "DIR USER [PATTERN]", "take a grant back; without a pattern all grants, the password and the keys", 2, 3,
+			[]string{"--socket"}, runRevoke},
 		{"serve", "DIR [--http ADDRESS] [--ssh ADDRESS] [--socket PATH] [--certificate FILE --certificate-key FILE] " +
 			"[--log ADDRESS .. [--log-wait TIME] [--replicas N] [--log-unsynced] [--follow [--leader URL] [--take-over TIME]]] [--pool-copy PATH]",
 			"serve until SIGTERM; with --follow as a replica of the server that writes the logs: it answers what only reads, and with --take-over " +
@@ -73,17 +83,24 @@ func commands() []command {
 				followFlags...), runServe},
 		{"status", "DIR", "tell how the running server stands", 1, 1, []string{"--socket"}, runCall},
 		{"save", "DIR", "save the pool file now", 1, 1, []string{"--socket"}, runCall},
+		{"backup", "DIR TO [--keep N]", "keep what the folder has at one moment in a folder of backups, of which the last N stay, or 1; " +
+			"the server may run", 2, 2, []string{"--keep", "--socket"}, runBackup},
+		{"restore", "FROM DIR [--moment NAME]", "make a server's folder of the newest backup in a folder of backups, or of another one", 2, 2,
+			[]string{"--moment"}, runRestore},
 		{"tenants", "DIR", "list the tenants of the running server, with their sizes", 1, 1, []string{"--socket"}, runCall},
 		{"copy", "DIR FROM TO", "copy a tenant to an empty one", 3, 3, []string{"--socket"}, runCall},
 		{"remove", "DIR TENANT", "remove a tenant", 2, 2, []string{"--socket"}, runCall},
 		{"compact", "DIR TENANT", "drop what no ref of a tenant reaches", 2, 2, []string{"--socket"}, runCall},
+		{"head", "DIR TENANT BRANCH", "let HEAD name another branch: what a clone checks out, and pages show first", 3, 3, []string{"--socket"}, runCall},
 		{"move", "DIR TENANT SHARD", "move a tenant to another shard", 3, 3, []string{"--socket"}, runCall},
-		{"limits", "DIR [NAME VALUE | quota TENANT VALUE | user-bytes|user-tenants|daily-bytes|daily-child USER VALUE]", "list the limits, or set one; the value `default` unsets it", 1, 4, nil, runLimits},
+		{"limits", "DIR [NAME VALUE | quota TENANT VALUE | user-bytes|user-tenants|daily-bytes|daily-child USER VALUE]",
+			"list the limits, or set one; the value `default` unsets it", 1, 4, []string{"--socket"}, runLimits},
 		{"block", "DIR [user|tenant NAME [WHY]]", "refuse everything to a user, or pushes and streams to a tenant, and tell them why; without a name list " +
-			"what is blocked", 1, 4, nil, runBlock},
-		{"unblock", "DIR user|tenant NAME", "take a block back", 3, 3, nil, runUnblock},
+			"what is blocked", 1, 4, []string{"--socket"}, runBlock},
+		{"unblock", "DIR user|tenant NAME", "take a block back", 3, 3, []string{"--socket"}, runUnblock},
 		{"hooks", "DIR [add|remove PATTERN WHERE]", "list the hooks, or let a program or an http address be told of pushes", 1, 4,
-			nil, runHooks},
+			[]string{"--socket"}, runHooks},
+		{"audit", "DIR", "print what operators changed: who, when and from where", 1, 1, nil, runAudit},
 	}
 }
 
@@ -130,10 +147,12 @@ func statusOf(err error) int {
 	var missing *shards.Missing
 	var lost *lists.Lost
 	var notFile *regular.NotFile
+	var backup *backups.Damaged
 	switch {
 	case errors.As(err, &bad) && bad.IsTaken:
 		return statusDevice
-	case errors.As(err, &damaged), errors.As(err, &bad), errors.As(err, &two), errors.As(err, &missing), errors.As(err, &lost), errors.As(err, &notFile), errors.Is(err, poolfile.ErrForm), errors.Is(err, store.ErrLoad):
+	case errors.As(err, &damaged), errors.As(err, &bad), errors.As(err, &two), errors.As(err, &missing), errors.As(err, &lost),
+		errors.As(err, &notFile), errors.As(err, &backup), errors.Is(err, poolfile.ErrForm), errors.Is(err, store.ErrLoad):
 		return statusDamaged
 	case errors.Is(err, store.ErrInHand), errors.Is(err, os.ErrNotExist), errors.Is(err, os.ErrPermission), errors.Is(err, syscall.EROFS):
 		return statusDevice

@@ -25,6 +25,7 @@ import (
 	"gitpoold/logs"
 	"gitpoold/markdown"
 	"gitpoold/metrics"
+	"gitpoold/notify"
 	"gitpoold/operator"
 	"gitpoold/owners"
 	"gitpoold/regular"
@@ -56,6 +57,7 @@ func runServe(l line) error {
 	defer stop()
 	log, serves := logs.New(os.Stderr, metrics.New()), make(chan struct{})
 	go stopAt(signals, serves, stop, log)
+	tellSystem(log, notify.Status("the pool file is loaded, and the journal carried out"))
 	s, err := open(l)
 	if err != nil {
 		return err
@@ -86,9 +88,17 @@ func stopAt(signals <-chan os.Signal, serves <-chan struct{}, stop func(), log *
 		os.Exit(0)
 	}
 	log.Printf("%v: no connection is taken any more; what has begun ends, and the pool is saved", it)
+	tellSystem(log, notify.Stopping, notify.Status("what has begun ends, and the pool is saved"))
 	stop()
 	<-signals
 	os.Exit(0)
+}
+
+// tellSystem tells systemd how the server stands.
+func tellSystem(log *logs.Log, lines ...string) {
+	if err := notify.Tell(lines...); err != nil {
+		log.Printf("systemd cannot be told: %v", err)
+	}
 }
 
 // runnersByCore is how many goroutines may run at once, for each core.
@@ -122,14 +132,12 @@ func open(l line) (*server, error) {
 	if err != nil {
 		return nil, err
 	}
-	values := bounds.Get()
 	told, err := hooks.Load(folder, func() time.Duration { return bounds.Get().Hook }, log.Printf, m)
 	if err != nil {
 		return nil, err
 	}
-	second := func() int64 { return bounds.Fresh().SecondChild }
-	pool, err := openShards(l, store.Config{Folder: folder, Program: found, ChildMemory: values.ChildMemory, SecondChild: second,
-		Copy: l.flags["--pool-copy"], Stop: stopAtOnce, Tell: log.Printf})
+	pool, err := openShards(l, store.Config{Folder: folder, Program: found, ChildMemory: bounds.Get().ChildMemory,
+		SecondChild: func() int64 { return bounds.Fresh().SecondChild }, Copy: l.flags["--pool-copy"], Stop: stopAtOnce, Tell: log.Printf})
 	if err != nil {
 		return nil, err
 	}
@@ -141,8 +149,8 @@ func open(l line) (*server, error) {
 	all := tenants.New(pool, bounds.Quota)
 	all.Bound(made)
 	s := &site.Site{Pool: all, Owners: made, Access: who, Limits: bounds, Log: log, Metrics: m, Hooks: told, Version: version, Elsewhere: pool.Follows,
-		Daily: daily.Open(filepath.Join(folder, "usage"), bounds.Daily, log.Printf),
-		Work:  filepath.Join(folder, "work"), Markdown: markdown.HTML}
+		Daily:  daily.Open(filepath.Join(folder, "usage"), bounds.Daily, log.Printf),
+		Folder: folder, Work: filepath.Join(folder, "work"), Markdown: markdown.HTML}
 	door := operator.New(s, pool)
 	door.Measure()
 	return &server{l, pool, s, door}, nil
@@ -281,8 +289,10 @@ func (s *server) serve(ctx context.Context, stop func(), ways []way) error {
 	defer stopKeeping()
 	failed := make(chan error, len(ways))
 	var all sync.WaitGroup
+	status := "serving"
 	for _, it := range ways {
 		s.site.Log.Printf("serving %s on %v", it.name, it.listener.Addr())
+		status += fmt.Sprintf(" %s on %v", it.name, it.listener.Addr())
 		all.Add(1)
 		go func(it way) {
 			defer all.Done()
@@ -292,6 +302,7 @@ func (s *server) serve(ctx context.Context, stop func(), ways []way) error {
 			}
 		}(it)
 	}
+	tellSystem(s.site.Log, notify.Ready, notify.Status(status))
 	all.Wait()
 	select {
 	case err := <-failed:

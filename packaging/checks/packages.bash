@@ -138,6 +138,8 @@ link_static() {
 
 static_runs() { same "$("$static" < "$top/streams/hello.fi")" $hello; }
 
+static_maps_a_large_file() { maps_a_large_file "$static"; }
+
 # An object is not taken for that of another executable.
 static_refuses_another_object() {
   cp "$program" "$room/changed"

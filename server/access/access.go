@@ -1,7 +1,9 @@
 // Package access says who may read and write which tenant, and who is who.
 //
-// The operator's folder has four files. `access` has lines `USER PATTERN RIGHT`: the user `*` is everyone, without a password; the
-// pattern is the name of a tenant, or a name and `/*` for all below it, or `*` for all; the right is `r` or `rw`. `passwords` has
+// The operator's folder has six files. `access` has lines `USER PATTERN RIGHT`: the user `*` is everyone, without a password; the
+// pattern is the name of a tenant, or a name and `/*` for all below it, or `*` for all; the right is `r` or `rw`. `groups` has lines
+// `@GROUP MEMBER`; a group may stand in the place of a user in `access`, and be a member of another one. `tokens` has lines
+// `TOKEN HASH UNTIL RIGHT PATTERN`: a token is a login of a user with less than the user's rights. `passwords` has
 // lines `USER HASH` with hashes by bcrypt, and `keys` has lines `USER TYPE KEY` as authorized_keys have them. `blocked` has lines
 // `user NAME WHY` and `tenant NAME WHY`. Commands change these files, and a running server reads them again when they have changed.
 package access
@@ -67,6 +69,9 @@ type rules struct {
 	grants    map[string][]grant
 	passwords map[string]string
 	keys      map[string]string
+	tokens    map[string]token
+	// groups has the groups that a user, or a group, is a member of.
+	groups map[string][]string
 	// blocked has why a user or a tenant is blocked, by `user NAME` and `tenant NAME`.
 	blocked map[string]string
 }
@@ -89,7 +94,8 @@ type Access struct {
 func Load(folder string, tell func(format string, values ...any)) (*Access, error) {
 	read := func() (*rules, error) { return readRules(folder) }
 	followed, err := lists.Follow(read, tell, filepath.Join(folder, "access"), filepath.Join(folder, "passwords"),
-		filepath.Join(folder, "keys"), filepath.Join(folder, "blocked"))
+		filepath.Join(folder, "keys"), filepath.Join(folder, "groups"), filepath.Join(folder, "tokens"),
+		filepath.Join(folder, "blocked"))
 	if err != nil {
 		return nil, err
 	}
@@ -116,11 +122,12 @@ func hashOfNobody() ([]byte, error) {
 func (a *Access) Unread() error { return a.rules.Unread() }
 
 func readRules(folder string) (*rules, error) {
-	r := &rules{map[string][]grant{}, map[string]string{}, map[string]string{}, map[string]string{}}
+	r := &rules{map[string][]grant{}, map[string]string{}, map[string]string{}, map[string]token{}, map[string][]string{}, map[string]string{}}
 	for _, file := range []struct {
 		name string
 		take func(words []string) error
-	}{{"access", r.takeGrant}, {"passwords", r.takePassword}, {"keys", r.takeKey}, {"blocked", r.takeBlocked}} {
+	}{{"access", r.takeGrant}, {"groups", r.takeMember}, {"tokens", r.takeToken}, {"passwords", r.takePassword}, {"keys", r.takeKey},
+		{"blocked", r.takeBlocked}} {
 		lines, err := lists.Read(filepath.Join(folder, file.name))
 		if err != nil {
 			return nil, err
@@ -135,7 +142,7 @@ func readRules(folder string) (*rules, error) {
 }
 
 func (r *rules) takeGrant(words []string) error {
-	if len(words) != 3 || words[0] != Everyone && !ValidUser(words[0]) || !ValidPattern(words[1]) {
+	if len(words) != 3 || !isGrantee(words[0]) || !ValidPattern(words[1]) {
 		return fmt.Errorf("`%s` is no line USER PATTERN RIGHT", strings.Join(words, " "))
 	}
 	right, err := ParseRight(words[2])
@@ -163,7 +170,7 @@ func (r *rules) takePassword(words []string) error {
 }
 
 func (r *rules) takeKey(words []string) error {
-	if len(words) < 3 || !ValidUser(words[0]) {
+	if len(words) < 3 || !ValidUser(Person(words[0])) {
 		return fmt.Errorf("a line is not USER TYPE KEY")
 	}
 	key, _, _, _, err := ssh.ParseAuthorizedKey([]byte(strings.Join(words[1:], " ")))
@@ -178,34 +185,42 @@ func (r *rules) takeKey(words []string) error {
 // without a password.
 func (a *Access) Right(user, tenant string) Right {
 	r := a.rules.Get()
-	best := None
-	if _, isBlocked := r.blocked[User+" "+user]; isBlocked {
+	best, person := None, Person(user)
+	if _, isBlocked := r.blocked[User+" "+person]; isBlocked {
 		return None
 	}
-	for _, grants := range [][]grant{r.grants[user], r.grants[Everyone]} {
-		for _, it := range grants {
+	for _, name := range r.grantees(person) {
+		for _, it := range r.grants[name] {
 			if it.right > best && Matches(it.pattern, tenant) {
 				best = it.right
 			}
 		}
 	}
+	if most := r.most(user, tenant); most < best {
+		return most
+	}
 	return best
 }
 
-// Key tells whose key this is, for a login over ssh. The login is the user's name, or Login.
+// Key tells whose key this is, for a login over ssh. The login is the name of the user or of the token that has it, or Login.
 func (a *Access) Key(login string, key ssh.PublicKey) (user string, ok bool) {
-	user, ok = a.rules.Get().keys[string(key.Marshal())]
-	return user, ok && (login == user || login == Login)
+	r := a.rules.Get()
+	user, ok = r.keys[string(key.Marshal())]
+	return user, ok && (login == user || login == Login) && r.lasts(user)
 }
 
-// Hash gives the hash of a user's password as it is now, or "".
-func (a *Access) Hash(user string) string { return a.rules.Get().passwords[user] }
+// Hash gives the hash of a user's password, or of a token, as it is now, or "".
+func (a *Access) Hash(user string) string {
+	hash, _ := a.rules.Get().hashOf(user)
+	return hash
+}
 
 // IsStill tells whether what let a user in is the user's still: a key, as Marshal gives it, or else the hash of a password.
 func (a *Access) IsStill(user, key, hash string) bool {
 	r := a.rules.Get()
 	if key != "" {
-		return r.keys[key] == user
+		return r.keys[key] == user && r.lasts(user)
 	}
-	return hash != "" && r.passwords[user] == hash
+	now, _ := r.hashOf(user)
+	return hash != "" && now == hash
 }

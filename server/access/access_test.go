@@ -419,3 +419,93 @@ func TestBlocks(t *testing.T) {
 		t.Error("unblocked twice")
 	}
 }
+
+// TestGroups has groups in groups, in a circle too, which only a list that was written by hand has.
+func TestGroups(t *testing.T) {
+	folder := t.TempDir()
+	a := loaded(t, folder)
+	must(t, AddMember(folder, "@team", "alice"))
+	must(t, AddMember(folder, "@staff", "@team"))
+	must(t, Grant(folder, "@staff", "acme/*", "r"))
+	must(t, Grant(folder, "@team", "acme/site", "rw"))
+	rights := func() [3]Right {
+		return [3]Right{a.Right("alice", "acme/site"), a.Right("alice", "acme/other"), a.Right("bob", "acme/site")}
+	}
+	if rights() != [3]Right{Write, Read, None} || a.Right("@team", "acme/none") != Read {
+		t.Fatal(rights())
+	}
+	if AddMember(folder, "@team", "@staff") == nil || AddMember(folder, "@team", "@team") == nil || AddMember(folder, "team", "alice") == nil {
+		t.Fatal("a group is in itself, or has a bad name")
+	}
+	must(t, os.WriteFile(filepath.Join(folder, "groups"), []byte("@team alice\n@staff @team\n@team @staff\n@staff @staff\n"), 0o600))
+	if rights() != [3]Right{Write, Read, None} {
+		t.Fatal(rights())
+	}
+	must(t, Revoke(folder, "alice", ""))
+	if rights() != [3]Right{} {
+		t.Fatal("who was revoked is in a group:", rights())
+	}
+}
+
+// TestTokens has a token do no more than its user may and its scope says, and nothing once it is over, removed, or its user is.
+func TestTokens(t *testing.T) {
+	folder := t.TempDir()
+	a := loaded(t, folder)
+	must(t, SetPassword(folder, "alice", "correct horse"))
+	must(t, Grant(folder, "alice", "acme/*", "rw"))
+	must(t, Grant(folder, Everyone, "open/*", "r"))
+	made := func(pattern, right string, lasts time.Duration) (login, secret string) {
+		login, secret, err := NewToken("alice")
+		must(t, err)
+		must(t, AddToken(folder, login, secret, pattern, right, time.Now().Add(lasts)))
+		return login, secret
+	}
+	reads, secret := made("acme/site", "r", time.Hour)
+	all, other := made("*", "rw", time.Hour)
+	over, overs := made("*", "rw", -time.Second)
+	if !lets(a, reads, secret, "192.0.2.1:1") || !lets(a, all, other, "192.0.2.1:1") || lets(a, over, overs, "192.0.2.2:1") ||
+		lets(a, reads, other, "192.0.2.3:1") || lets(a, "alice", secret, "192.0.2.4:1") || lets(a, "alice~0", secret, "192.0.2.5:1") {
+		t.Fatal("a secret")
+	}
+	for _, it := range []struct {
+		login, tenant string
+		want          Right
+	}{{reads, "acme/site", Read}, {reads, "acme/other", None}, {reads, "open/x", None}, {all, "acme/site", Write}, {all, "open/x", Read},
+		{all, "secret", None}, {over, "acme/site", None}, {"alice~0", "acme/site", None}, {"~", "open/x", None}} {
+		if got := a.Right(it.login, it.tenant); got != it.want {
+			t.Errorf("%s of %s: %d, wanted %d", it.tenant, it.login, got, it.want)
+		}
+	}
+	hash := a.Hash(all)
+	if hash == "" || !a.IsStill(all, "", hash) || a.IsStill(reads, "", hash) || a.Hash(over) != "" || a.IsStill(over, "", "") {
+		t.Fatal("what let a token in")
+	}
+	must(t, Block(folder, User, "alice", ""))
+	if a.Blocked(all, "", Read) == nil || a.Right(all, "acme/site") != None {
+		t.Fatal("a token of a blocked user")
+	}
+	must(t, Unblock(folder, User, "alice"))
+	must(t, RemoveToken(folder, reads))
+	if lets(a, reads, secret, "192.0.2.6:1") || RemoveToken(folder, reads) == nil || !a.IsStill(all, "", hash) {
+		t.Fatal("a token that was removed")
+	}
+	must(t, Revoke(folder, "alice", ""))
+	if a.IsStill(all, "", hash) || lets(a, all, other, "192.0.2.7:1") {
+		t.Fatal("a token of a user who was revoked")
+	}
+}
+
+func TestEnds(t *testing.T) {
+	for _, word := range []string{"", "d", "0d", "-1h", "2000-01-01", "2027-02-30", "soon", "60000d", "99999999999h", "1e9d"} {
+		if end, err := ParseEnd(word); err == nil {
+			t.Errorf("%q ends at %v", word, end)
+		}
+	}
+	end, err := ParseEnd(time.Now().UTC().Format("2006-01-02"))
+	if left := time.Until(end); err != nil || left <= 0 || left > 24*time.Hour {
+		t.Error("today ends at", end, err)
+	}
+	if end, err = ParseEnd("90d"); err != nil || time.Until(end) < 89*24*time.Hour {
+		t.Error(end, err)
+	}
+}

@@ -40,7 +40,7 @@ func (a *Access) Blocked(user, tenant string, right Right) error {
 // BlockedWithin is what Blocked was so long ago at most, for who asks again and again.
 func (a *Access) BlockedWithin(age time.Duration, user, tenant string, right Right) error {
 	r := a.rules.Within(age)
-	if why, is := r.blocked[User+" "+user]; is {
+	if why, is := r.blocked[User+" "+Person(user)]; is {
 		return &Blocked{User, why}
 	}
 	if why, is := r.blocked[Tenant+" "+tenant]; is && right >= Write {

@@ -57,10 +57,10 @@ func errUser(user string) error {
 	return fmt.Errorf("%q is no name of a user: letters, digits, `.`, `_` and `-`, and not `%s`", user, Login)
 }
 
-// AddKeys gives a user the keys of an authorized_keys or .pub file. A key belongs to one user.
+// AddKeys gives a user, or a token, the keys of an authorized_keys or .pub file. A key belongs to one of these.
 func AddKeys(folder, user string, text []byte) (added int, err error) {
-	if !ValidUser(user) {
-		return 0, errUser(user)
+	if err := checkLogin(folder, user); err != nil {
+		return 0, err
 	}
 	keys, err := parseKeys(text)
 	if err != nil {
@@ -77,6 +77,38 @@ func AddKeys(folder, user string, text []byte) (added int, err error) {
 			lines = append(lines, user+" "+key)
 		}
 		return lines, nil
+	})
+}
+
+// Fingerprints gives those of the keys of an authorized_keys or .pub file, as ssh-keygen shows them.
+func Fingerprints(text []byte) (all []string) {
+	keys, _ := parseKeys(text)
+	for _, key := range keys {
+		all = append(all, fingerprint(key))
+	}
+	return all
+}
+
+func fingerprint(line string) string {
+	key, _, _, _, err := ssh.ParseAuthorizedKey([]byte(line))
+	if err != nil {
+		return ""
+	}
+	return ssh.FingerprintSHA256(key)
+}
+
+// RemoveKey takes the key of a fingerprint from a user. It is an error if the user has no such key.
+func RemoveKey(folder, user, wanted string) error {
+	return lists.Change(filepath.Join(folder, "keys"), func(lines []string) (left []string, err error) {
+		for _, line := range lines {
+			if !begins(line, user) || fingerprint(strings.Join(strings.Fields(line)[1:], " ")) != wanted {
+				left = append(left, line)
+			}
+		}
+		if len(left) == len(lines) {
+			err = fmt.Errorf("%s has no key %s", user, wanted)
+		}
+		return left, err
 	})
 }
 
@@ -99,15 +131,21 @@ func parseKeys(text []byte) (keys []string, err error) {
 	return keys, nil
 }
 
-// Grant lets a user, or Everyone, do something with the tenants that a pattern names, in the place of what held for this pattern.
-func Grant(folder, user, pattern, right string) error {
-	if user != Everyone && !ValidUser(user) {
+// CheckGrant asks that these are words of a grant.
+func CheckGrant(user, pattern, right string) error {
+	if !isGrantee(user) {
 		return errUser(user)
 	}
 	if !ValidPattern(pattern) {
 		return fmt.Errorf("%q names no tenant: a name of 1 to 64 bytes, or a name and `/*`, or `*`", pattern)
 	}
-	if _, err := ParseRight(right); err != nil {
+	_, err := ParseRight(right)
+	return err
+}
+
+// Grant lets a user, a group, or Everyone, do something with the tenants that a pattern names, in the place of what held for this pattern.
+func Grant(folder, user, pattern, right string) error {
+	if err := CheckGrant(user, pattern, right); err != nil {
 		return err
 	}
 	return lists.Change(filepath.Join(folder, "access"), func(lines []string) ([]string, error) {
@@ -115,17 +153,39 @@ func Grant(folder, user, pattern, right string) error {
 	})
 }
 
-// Revoke takes back what was granted to a user for a pattern. Without a pattern it takes all grants, the password and the keys of the
-// user. It is an error if there was nothing to take.
+// IsKnown tells whether a user has a password or a key, a group has a member, or this is Everyone.
+func IsKnown(folder, user string) (bool, error) {
+	for _, file := range []string{"passwords", "keys", "groups"} {
+		lines, err := lists.Read(filepath.Join(folder, file))
+		if err != nil {
+			return false, err
+		}
+		for _, words := range lines {
+			if words[0] == user {
+				return true, nil
+			}
+		}
+	}
+	return user == Everyone, nil
+}
+
+// Revoke takes back what was granted to a user or a group for a pattern. Without a pattern it takes all grants, the password, the keys and the
+// tokens of the user, and takes it out of all groups; or it takes all grants and members of the group. It is an error if there was nothing to take.
 func Revoke(folder, user, pattern string) error {
 	words, files := []string{user, pattern}, []string{"access"}
 	if pattern == "" {
-		words, files = words[:1], []string{"access", "passwords", "keys"}
+		words, files = words[:1], []string{"access", "passwords", "keys", "groups", "tokens"}
 	}
 	taken := 0
 	for _, file := range files {
 		err := lists.Change(filepath.Join(folder, file), func(lines []string) ([]string, error) {
 			left := without(lines, words...)
+			switch file {
+			case "groups":
+				left = outOfGroups(lines, user)
+			case "tokens", "keys":
+				left = ofOthers(lines, user)
+			}
 			taken += len(lines) - len(left)
 			return left, nil
 		})

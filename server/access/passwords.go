@@ -50,11 +50,11 @@ var (
 // Password is nil where this is the password of a user who calls from an address, else ErrWrong. Tries for one user that follow wrong ones wait up to a
 // second. Then each waits for its turn, and is ErrBusy where that does not come within Patience, or the context ends.
 func (a *Access) Password(ctx context.Context, user, password, address string) error {
-	hash, known := a.rules.Get().passwords[user]
+	hash, known := a.rules.Get().hashOf(user)
 	if known && a.proofs.has(user, hash, password) {
 		return nil
 	}
-	if !ValidUser(user) {
+	if !ValidUser(user) && !known {
 		// What is counted by users is not to grow with what clients call themselves.
 		user = ""
 	}
@@ -95,7 +95,7 @@ func (a *Access) judge(ctx context.Context, user, password, from string) error {
 		return ErrBusy
 	}
 	defer leave()
-	hash, known := a.rules.Get().passwords[user]
+	hash, known := a.rules.Get().hashOf(user)
 	compared := []byte(hash)
 	if !known {
 		compared = a.nobody

@@ -19,7 +19,8 @@ func chargeOf(ctx context.Context) func(time.Duration) {
 	return charge
 }
 
-// Cost is what the child took for steps: its time, and by how many bytes its memory has grown. Resident is how much it had then.
+// Cost is what the child took for steps: its time, and by how many bytes its own memory has grown. Resident is how much it had then, with all
+// that it maps of files.
 type Cost struct {
 	Took            time.Duration
 	Grown, Resident int64
@@ -51,6 +52,22 @@ func InRoom(ctx context.Context, bytes int64) context.Context {
 func roomOf(ctx context.Context) int64 {
 	if room, has := ctx.Value(roomKey{}).(int64); has {
 		return room
+	}
+	return math.MaxInt64
+}
+
+// longestKey is the key, among the values of a context, of the longest reply that is taken.
+type longestKey struct{}
+
+// Longest gives a context whose batches take no reply of more than so many bytes: the answer is fault 25 then.
+func Longest(ctx context.Context, bytes int64) context.Context {
+	return context.WithValue(ctx, longestKey{}, bytes)
+}
+
+// longestOf gives the longest reply that a context takes.
+func longestOf(ctx context.Context) int64 {
+	if longest, has := ctx.Value(longestKey{}).(int64); has {
+		return longest
 	}
 	return math.MaxInt64
 }

@@ -9,7 +9,6 @@ import (
 	"bufio"
 	"context"
 	"errors"
-	"fmt"
 	"io"
 	"os"
 	"os/exec"
@@ -59,9 +58,9 @@ type Process struct {
 	mutex    sync.Mutex
 	waiting  int
 	answered time.Time
-	// measured is how many of the batches that wait are measured. While there are any, `resident` is the child's memory at the last answer.
+	// measured is how many of the batches that wait are measured. While there are any, `memory` is the child's at the last answer.
 	measured int
-	resident int64
+	memory   Memory
 }
 
 // Batch is a run of steps that were sent together.
@@ -72,6 +71,7 @@ type Batch struct {
 	charge  func(time.Duration)
 	measure func(Cost)
 	room    int64
+	longest int64
 	answers []frames.Answer
 	done    chan struct{}
 	err     error
@@ -202,21 +202,11 @@ func (p *Process) isAwaited() bool {
 	return p.waiting > 0
 }
 
-// Resident is how much memory the child has, 0 where that is not known.
-func (p *Process) Resident() int64 { return Resident(p.Pid()) }
+// Memory is how much memory the child has.
+func (p *Process) Memory() Memory { return MemoryOf(p.Pid()) }
 
-// Resident is how much memory a process has, 0 where that is not known.
-func Resident(pid int) int64 {
-	text, err := os.ReadFile(fmt.Sprintf("/proc/%d/statm", pid))
-	var size, resident int64
-	if err != nil {
-		return 0
-	}
-	if _, err := fmt.Sscan(string(text), &size, &resident); err != nil {
-		return 0
-	}
-	return resident * int64(os.Getpagesize())
-}
+// Resident is how much memory the child has with all that it maps of files, which it would need where nothing were mapped.
+func (p *Process) Resident() int64 { return p.Memory().Held() }
 
 // Send sends steps, and gives the batch to which their answers come. It waits while the child has no room for more, and gives the
 // context's error, or ErrGone where the child has ended or was told to end.
@@ -226,7 +216,7 @@ func (p *Process) Send(ctx context.Context, class Class, steps ...frames.Step) (
 		size += step.Size()
 	}
 	b := &Batch{frames: make([]byte, 0, size), count: len(steps), class: class, charge: chargeOf(ctx), measure: measureOf(ctx),
-		room: roomOf(ctx), done: make(chan struct{})}
+		room: roomOf(ctx), longest: longestOf(ctx), done: make(chan struct{})}
 	for _, step := range steps {
 		b.frames = step.AppendTo(b.frames)
 	}
@@ -266,7 +256,7 @@ func (p *Process) wait(b *Batch) {
 		return
 	}
 	if p.measured++; p.measured == 1 {
-		p.resident = p.Resident()
+		p.memory = p.Memory()
 	}
 }
 
@@ -275,8 +265,9 @@ func (p *Process) unwait(b *Batch) (cost Cost) {
 	p.mutex.Lock()
 	defer p.mutex.Unlock()
 	if p.measured > 0 {
-		cost.Resident = p.Resident()
-		cost.Grown, p.resident = cost.Resident-p.resident, cost.Resident
+		now := p.Memory()
+		cost.Resident, cost.Grown = now.Held(), now.Anonymous-p.memory.Anonymous
+		p.memory = now
 	}
 	if b.measure != nil {
 		p.measured--
@@ -427,7 +418,7 @@ func receiveBatch(from *bufio.Reader, b *Batch) error {
 			}
 			continue
 		}
-		answer, err := frames.ReadAnswer(from)
+		answer, err := frames.ReadAnswerWithin(from, b.longest)
 		if err != nil {
 			return err
 		}

@@ -195,6 +195,7 @@ func (l *Ledger) Meter(user, address string) *Meter {
 	if l == nil {
 		return nil
 	}
+	user = access.Person(user)
 	who := user
 	if who == "" {
 		who = visitor + access.Network(address)

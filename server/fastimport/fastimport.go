@@ -28,6 +28,7 @@ func refuse(format string, values ...any) error { return &Refused{fmt.Sprintf(fo
 type Reader struct {
 	lexer lexer
 	judge judge
+	bound bound
 	// part is what the current call of Next has read, and isEnded whether it ends there.
 	part    Part
 	isEnded bool
@@ -66,9 +67,26 @@ func (r *Reader) Next(ctx context.Context, piece []byte, most Part) (Part, error
 			return r.part, err
 		}
 		r.part.Bytes += taken
+		r.bound.bytes += int64(taken)
 	}
 	return r.part, nil
 }
+
+// Most is how many bytes of objects and refs the stream has told at most since the last call of Forget, where no tree of the tenant had more than
+// `largest` bytes before.
+func (r *Reader) Most(largest int64) int64 {
+	if len(r.lexer.line) > 0 {
+		// The last line may have no end.
+		return unbounded
+	}
+	return r.bound.most(largest)
+}
+
+// Things is how many objects, refs and files the stream has told at most since then.
+func (r *Reader) Things() int64 { return r.bound.things }
+
+// Forget lets Most and Things count anew, from a checkpoint on.
+func (r *Reader) Forget() { r.bound = bound{} }
 
 // heavy are the first words of lines that the program may be long at: those that read or write trees, or walk through commits.
 var heavy = map[string]bool{"commit": true, "from": true, "merge": true, "C": true, "R": true, "ls": true, "reset": true, "tag": true, "alias": true,
@@ -89,7 +107,9 @@ func (r *Reader) takeLine(line []byte) error {
 		r.isEnded = true
 	case "done":
 		r.lexer.isOver = r.judge.isDone
+		r.part.HasCheckpoint, r.isEnded = true, true
 	}
+	r.bound.takeLine(string(word), line)
 	return nil
 }
 

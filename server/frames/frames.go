@@ -7,6 +7,7 @@ import (
 	"encoding/binary"
 	"errors"
 	"io"
+	"math"
 )
 
 // Kind is the kind of a step.
@@ -221,9 +222,18 @@ func (a Answer) WriteTo(to io.Writer) (int64, error) {
 
 // ReadAnswer reads the next answer. It gives io.EOF where the input ends between answers, else ErrWrong, ErrCut, or the reader's
 // own error.
-func ReadAnswer(from *bufio.Reader) (Answer, error) {
+func ReadAnswer(from *bufio.Reader) (Answer, error) { return ReadAnswerWithin(from, math.MaxInt64) }
+
+// ReadAnswerWithin does so, and drops a reply of more than `most` bytes: then the answer is that of a fault, 25.
+func ReadAnswerWithin(from *bufio.Reader, most int64) (Answer, error) {
 	answer, size, err := readHead(from)
-	if err == nil {
+	switch {
+	case err != nil:
+	case int64(size) > most:
+		answer = Answer{Status: Fault, Value: 25}
+		_, err = io.CopyN(io.Discard, from, int64(size))
+		err = cut(err)
+	default:
 		answer.Reply, err = readBytes(from, size)
 	}
 	return answer, err

@@ -10,6 +10,7 @@ import (
 	"net"
 	"path/filepath"
 	"sync"
+	"syscall"
 	"time"
 
 	"gitpoold/access"
@@ -104,12 +105,25 @@ func (l *Limits) Enter(user, address string) (leave func(), err error) {
 	return l.leaver(who), nil
 }
 
+// spareSessions is how many sessions over ssh a user may have beside those that are at work.
+const spareSessions = 10
+
+// EnterSession counts a session over ssh from when it is open, with or without a command, and gives the call that ends it: what its client has sent
+// is held until it is read.
+func (l *Limits) EnterSession(user string) (leave func(), err error) {
+	what := "sessions of user " + user
+	if !l.take(what, l.Fresh().PerUser+spareSessions) {
+		return nil, ErrUserBusy
+	}
+	return l.leaver(what), nil
+}
+
 // whoIs is under which name a user is counted, or a visitor.
 func whoIs(user, address string) string {
 	if user == "" {
 		return "visitor " + access.Network(address)
 	}
-	return "user " + user
+	return "user " + access.Person(user)
 }
 
 func (l *Limits) take(what string, most int) bool {
@@ -212,6 +226,14 @@ type connection struct {
 	limits *Limits
 	reads  bool
 	leave  func()
+}
+
+// SyscallConn gives the system's connection, which knows who is at its other end; nil where there is none.
+func (c *connection) SyscallConn() (syscall.RawConn, error) {
+	if raw, is := c.Conn.(syscall.Conn); is {
+		return raw.SyscallConn()
+	}
+	return nil, syscall.ENOTSUP
 }
 
 // Close closes the connection and counts it no more.

@@ -124,7 +124,7 @@ var all = []limit{
 		bytes(func(v *Values) *int64 { return &v.DiskReserve })},
 	{"frame-idle", "10m", "the time that a client of frames may be silent with a stream open",
 		span(func(v *Values) *time.Duration { return &v.FrameIdle })},
-	{"child-memory", "0", "the bytes of address space that the child may take; 0 is no limit",
+	{"child-memory", "0", "the bytes of its own that the child may take, without the pool file that it maps; 0 is no limit",
 		bytes(func(v *Values) *int64 { return &v.ChildMemory })},
 }
 

@@ -64,11 +64,17 @@ var patience = time.Second
 
 // Within gives what the files come to, or came to so long ago at most.
 func (f *Followed[T]) Within(age time.Duration) T {
+	f.wait(age)
+	return f.Last()
+}
+
+// wait waits until the files were looked at, so long ago at most. It is false where the file system does not answer.
+func (f *Followed[T]) wait(age time.Duration) bool {
 	now := time.Now()
 	var late <-chan time.Time
 	for it := f.lookSince(now.Add(-age)); it != nil; it = f.lookSince(now.Add(-age)) {
 		if now.Sub(it.began) > patience {
-			break
+			return false
 		}
 		if late == nil {
 			timer := time.NewTimer(patience)
@@ -78,10 +84,10 @@ func (f *Followed[T]) Within(age time.Duration) T {
 		select {
 		case <-it.ended:
 		case <-late:
-			return f.Last()
+			return false
 		}
 	}
-	return f.Last()
+	return true
 }
 
 // lookSince gives a look that has to be waited for, so that one which began since then has ended. It is nil where one has.
@@ -115,9 +121,14 @@ func (f *Followed[T]) look(it *look) {
 
 // Unread says why the files cannot be read now, so that what was read before holds. It is nil where they can.
 func (f *Followed[T]) Unread() error {
-	f.Get()
+	if !f.wait(0) {
+		return errSilent
+	}
 	return f.Err()
 }
+
+// errSilent says that it is not known whether files have changed.
+var errSilent = errors.New("the file system does not answer")
 
 // Err says why the files could not be read when they were looked at last. It is nil where they could.
 func (f *Followed[T]) Err() error {

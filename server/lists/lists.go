@@ -2,10 +2,13 @@
 package lists
 
 import (
+	"errors"
 	"os"
 	"path/filepath"
 	"strings"
 	"syscall"
+
+	"gitpoold/regular"
 )
 
 // Read gives the lines of a file that are neither empty nor comments, each split at white space. A file that is not there has none, unless it was
@@ -21,10 +24,13 @@ func Read(path string) (lines [][]string, err error) {
 	return lines, err
 }
 
-// Change reads a file, lets `change` give its new lines, and puts the new file in the place of the old one in one step. Other calls of
+// Before is called before a file changes, and nothing changes where it fails: a command writes down what it is about to do.
+var Before = func() error { return nil }
+
+// Change reads a file, lets `change` give its new lines, and puts the new file in the place of the old one in one step, if it differs. Other calls of
 // Change in the same folder wait meanwhile. Comments stay where no line before them goes.
 func Change(path string, change func(lines []string) ([]string, error)) error {
-	unlock, err := lock(filepath.Join(filepath.Dir(path), "lists.lock"))
+	unlock, err := Lock(filepath.Dir(path))
 	if err != nil {
 		return err
 	}
@@ -33,18 +39,27 @@ func Change(path string, change func(lines []string) ([]string, error)) error {
 	if err != nil {
 		return err
 	}
-	if lines, err = change(lines); err != nil {
+	before := Text(lines...)
+	if lines, err = change(lines); err != nil || Text(lines...) == before {
+		return err
+	}
+	if err := Before(); err != nil {
 		return err
 	}
 	return Write(path, lines)
 }
 
-func lock(path string) (func(), error) {
+// Lock keeps commands from changing the lists of a folder until the call that it gives.
+func Lock(folder string) (unlock func(), err error) {
+	path := filepath.Join(folder, "lists.lock")
 	file, err := os.OpenFile(path, os.O_RDWR|os.O_CREATE, 0o600)
 	if err != nil {
 		return nil, err
 	}
-	if err := syscall.Flock(int(file.Fd()), syscall.LOCK_EX); err != nil {
+	if err = regular.Own(file, folder); err == nil {
+		err = syscall.Flock(int(file.Fd()), syscall.LOCK_EX)
+	}
+	if err != nil {
 		file.Close()
 		return nil, err
 	}
@@ -54,26 +69,24 @@ func lock(path string) (func(), error) {
 // Write puts a file with these lines in the place of what is there, in one step.
 func Write(path string, lines []string) error { return replace(path, Text(lines...)) }
 
-// replace writes a file beside its place, syncs it, and renames it. A link stays one.
+// replace writes a file beside its place, syncs it, and renames it. A link stays one. The file belongs to the owner of the folder that has it or the
+// link, and has the mode of the one before.
 func replace(path, text string) error {
+	owned := filepath.Dir(path)
 	if real, err := filepath.EvalSymlinks(path); err == nil {
 		path = real
 	}
-	file, err := os.OpenFile(path+".new", os.O_WRONLY|os.O_CREATE|os.O_TRUNC, 0o600)
-	if err != nil {
+	mode := os.FileMode(0o600)
+	if info, err := os.Stat(path); err == nil {
+		mode = info.Mode().Perm()
+	}
+	if err := os.Remove(path + ".new"); err != nil && !errors.Is(err, os.ErrNotExist) {
 		return err
 	}
-	_, err = file.WriteString(text)
-	if err == nil {
-		err = file.Sync()
+	if err := write(path+".new", text, owned, mode); err != nil {
+		return err
 	}
-	if closing := file.Close(); err == nil {
-		err = closing
-	}
-	if err == nil {
-		err = os.Rename(path+".new", path)
-	}
-	if err != nil {
+	if err := os.Rename(path+".new", path); err != nil {
 		return err
 	}
 	folder, err := os.Open(filepath.Dir(path))
@@ -82,4 +95,25 @@ func replace(path, text string) error {
 	}
 	defer folder.Close()
 	return folder.Sync()
+}
+
+// write makes a file, which belongs to the owner of a folder, and syncs it.
+func write(path, text, owned string, mode os.FileMode) error {
+	file, err := os.OpenFile(path, os.O_WRONLY|os.O_CREATE|os.O_EXCL, 0o600)
+	if err != nil {
+		return err
+	}
+	if err = regular.Own(file, owned); err == nil {
+		err = file.Chmod(mode)
+	}
+	if err == nil {
+		_, err = file.WriteString(text)
+	}
+	if err == nil {
+		err = file.Sync()
+	}
+	if closing := file.Close(); err == nil {
+		err = closing
+	}
+	return err
 }

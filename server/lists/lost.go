@@ -95,7 +95,7 @@ func had(folder string) (map[string]bool, error) {
 // Begin is called by a server before it reads the lists of its folder. One that the folder has never had is made, empty; from now on each has to be
 // there, with a last line.
 func Begin(folder string, names ...string) error {
-	unlock, err := lock(filepath.Join(folder, "lists.lock"))
+	unlock, err := Lock(folder)
 	if err != nil {
 		return err
 	}

@@ -68,6 +68,21 @@ func (l *Log) Change(c Change) {
 	}
 }
 
+// Operator is what an operator did, who is a user of the system by its number and name, and had logged in as another one, from some place.
+type Operator struct {
+	ID, User, Login, From, What string
+	Err                         error
+}
+
+// Operator writes the line of what an operator did.
+func (l *Log) Operator(o Operator) {
+	words := []string{"uid", o.ID, "user", o.User, "login", o.Login, "from", o.From, "what", o.What}
+	if o.Err != nil {
+		words = append(words, "error", o.Err.Error())
+	}
+	l.line("operator", words)
+}
+
 // Printf writes a line for the operator.
 func (l *Log) Printf(format string, values ...any) {
 	l.line("note", []string{"text", fmt.Sprintf(format, values...)})

@@ -15,6 +15,7 @@ import (
 	"sync"
 	"time"
 
+	"gitpoold/audit"
 	"gitpoold/child"
 	"gitpoold/journal"
 	"gitpoold/shards"
@@ -89,7 +90,7 @@ func (d *Door) Serve(ctx context.Context, listener net.Listener) error {
 // answer answers one connection. Its first byte says what it is: the kind of a frame, or a letter of a command.
 func (d *Door) answer(ctx context.Context, conn net.Conn) {
 	defer conn.Close()
-	ctx, stop := context.WithCancel(ctx)
+	ctx, stop := context.WithCancel(peer(conn).With(ctx))
 	defer stop()
 	go func() {
 		<-ctx.Done()
@@ -109,7 +110,8 @@ func (d *Door) answer(ctx context.Context, conn net.Conn) {
 
 const longestCommand = 4096
 
-// obey reads a command's line, and answers `ok` or `error SENTENCE`, and what there is to tell.
+// obey reads a command's line, and answers `ok` or `error SENTENCE`, and what there is to tell. Before the command may stand who gives it, as Call
+// writes that.
 func (d *Door) obey(ctx context.Context, conn net.Conn, in *bufio.Reader) {
 	if conn.SetReadDeadline(time.Now().Add(d.site.Limits.Get().Handshake)) != nil {
 		return
@@ -118,14 +120,26 @@ func (d *Door) obey(ctx context.Context, conn net.Conn, in *bufio.Reader) {
 	if err != nil {
 		return
 	}
-	began := time.Now()
-	text, err := d.command(ctx, strings.Fields(line))
-	d.site.Log.Printf("the operator said %q: %v, %.1f s", strings.TrimSpace(line), err, time.Since(began).Seconds())
+	who, words := audit.Of(ctx).Signer(strings.Fields(line))
+	if len(words) == 1 && words[0] == momentCommand {
+		d.lend(ctx, who, conn, in)
+		return
+	}
+	text, err := d.command(who.With(ctx), words)
+	d.site.Log.Operator(who.Line(saidBy(words), err))
 	if err != nil {
 		fmt.Fprintf(conn, "error %s\n", err)
 		return
 	}
 	fmt.Fprintf(conn, "ok\n%s", text)
+}
+
+// saidBy gives what an operator did by a command.
+func saidBy(words []string) string {
+	if len(words) > 2 && words[0] == changedCommand {
+		words = words[2:]
+	}
+	return strings.Join(words, " ")
 }
 
 func (d *Door) command(ctx context.Context, words []string) (string, error) {
@@ -136,19 +150,43 @@ func (d *Door) command(ctx context.Context, words []string) (string, error) {
 		words int
 		do    func(ctx context.Context, words []string) (string, error)
 	}{
-		"status":  {0, d.status},
-		"save":    {0, d.save},
-		"tenants": {0, d.tenants},
-		"copy":    {2, d.copy},
-		"remove":  {1, d.remove},
-		"compact": {1, d.compact},
-		"move":    {2, d.move},
+		"status":       {0, d.status},
+		"save":         {0, d.save},
+		"tenants":      {0, d.tenants},
+		"copy":         {2, d.copy},
+		"remove":       {1, d.remove},
+		"compact":      {1, d.compact},
+		"move":         {2, d.move},
+		"head":         {2, d.head},
+		changedCommand: {anyWords, d.changed},
 	}
 	it, found := known[words[0]]
-	if !found || len(words)-1 != it.words {
+	if !found || it.words != anyWords && len(words)-1 != it.words {
 		return "", fmt.Errorf("there is no command %q with %d words", words[0], len(words)-1)
 	}
 	return it.do(ctx, words)
+}
+
+// changedCommand says that a list has changed; its other words say which one, and by what, in as many words as that has.
+const (
+	changedCommand = "changed"
+	anyWords       = -1
+)
+
+// readWithin is how long a list may be unread that a command has changed, such as while the process has too many files open.
+const readWithin = 2 * time.Second
+
+// changed reads a list again that a command has changed; the other words say how. The answer comes once what the list says holds.
+func (d *Door) changed(ctx context.Context, words []string) (string, error) {
+	if len(words) < 2 {
+		return "", errors.New("say which list has changed")
+	}
+	for until := time.Now().Add(readWithin); ; time.Sleep(readWithin / 10) {
+		err := d.site.Read(words[1])
+		if err == nil || time.Now().After(until) || ctx.Err() != nil {
+			return "", err
+		}
+	}
 }
 
 func (d *Door) save(ctx context.Context, _ []string) (string, error) {
@@ -156,15 +194,15 @@ func (d *Door) save(ctx context.Context, _ []string) (string, error) {
 }
 
 func (d *Door) copy(ctx context.Context, words []string) (string, error) {
-	return "", d.copyTenant(ctx, words[1], words[2])
+	return "", d.ofKnown(words[1], func() error { return d.copyTenant(ctx, words[1], words[2]) })
 }
 
 func (d *Door) remove(ctx context.Context, words []string) (string, error) {
-	return "", d.removeTenant(ctx, words[1])
+	return "", d.ofKnown(words[1], func() error { return d.removeTenant(ctx, words[1]) })
 }
 
 func (d *Door) compact(ctx context.Context, words []string) (string, error) {
-	return "", d.compactTenant(ctx, words[1])
+	return "", d.ofKnown(words[1], func() error { return d.compactTenant(ctx, words[1]) })
 }
 
 func (d *Door) move(ctx context.Context, words []string) (string, error) {
@@ -172,12 +210,56 @@ func (d *Door) move(ctx context.Context, words []string) (string, error) {
 	if err != nil {
 		return "", fmt.Errorf("%q is no number of a shard", words[2])
 	}
-	return "", d.operate(words[1:2], func() error { return d.store.Move(ctx, words[1], shard) })
+	return "", d.operate(ctx, words, words[1:2], func() error { return d.store.Move(ctx, words[1], shard) })
+}
+
+// countWithin is how long the children have to say what tenants have. Where one saves for longer, the operator is told so.
+const countWithin = 5 * time.Minute
+
+// head lets HEAD of a tenant name a branch that it has. A name without `refs/` is that of a branch.
+func (d *Door) head(ctx context.Context, words []string) (string, error) {
+	name, ref := words[1], words[2]
+	if !strings.HasPrefix(ref, "refs/") {
+		ref = branches + ref
+	}
+	return "", d.ofKnown(name, func() error {
+		return d.operate(ctx, words, []string{name}, func() error { return d.setHead(ctx, name, ref) })
+	})
+}
+
+const branches = "refs/heads/"
+
+// setHead does so by a stream, as a user can.
+func (d *Door) setHead(ctx context.Context, name, ref string) error {
+	tenant, err := d.site.Pool.Tenant(name)
+	if err != nil {
+		return err
+	}
+	soon, stop := context.WithTimeout(ctx, openPatience)
+	defer stop()
+	return tenant.Push(soon, func(refs tenants.Refs) error {
+		if !strings.HasPrefix(ref, branches) || refs.Target(ref) == (tenants.Name{}) {
+			return fmt.Errorf("%s has no branch %s", name, ref)
+		}
+		return nil
+	}, func(s *tenants.Stream) error {
+		_, err := s.WriteString("option gitpool head " + ref + "\n")
+		return err
+	})
+}
+
+// ofKnown does something to a tenant that has something. Frames are answered as the program answers them, to which each tenant is an empty one at
+// least; an operator may have mistyped the name.
+func (d *Door) ofKnown(name string, do func() error) error {
+	if tenants.ValidName(name) && !d.store.Has(name) {
+		return fmt.Errorf("there is no tenant %s", name)
+	}
+	return do()
 }
 
 // copyTenant copies a tenant, as it is after its last push or checkpoint, to an empty one, to which no push is at work meanwhile.
 func (d *Door) copyTenant(ctx context.Context, from, to string) error {
-	return d.operate([]string{to, from}, d.alone(to, func() error {
+	return d.operate(ctx, []string{"copy", from, to}, []string{to, from}, d.alone(to, func() error {
 		err := d.store.Copy(ctx, from, to)
 		if err == nil && d.site.Owners != nil {
 			err = d.site.Owners.Put(to, d.site.Owners.Of(from))
@@ -187,7 +269,7 @@ func (d *Door) copyTenant(ctx context.Context, from, to string) error {
 }
 
 func (d *Door) removeTenant(ctx context.Context, name string) error {
-	return d.operate([]string{name}, d.alone(name, func() error {
+	return d.operate(ctx, []string{"remove", name}, []string{name}, d.alone(name, func() error {
 		err := d.store.Remove(ctx, name)
 		if err == nil && d.site.Owners != nil {
 			err = d.site.Owners.Forget(name)
@@ -197,7 +279,7 @@ func (d *Door) removeTenant(ctx context.Context, name string) error {
 }
 
 func (d *Door) compactTenant(ctx context.Context, name string) error {
-	return d.operate([]string{name}, d.alone(name, func() error { return d.store.Compact(ctx, name) }))
+	return d.operate(ctx, []string{"compact", name}, []string{name}, d.alone(name, func() error { return d.store.Compact(ctx, name) }))
 }
 
 // alone gives a call that does something to a tenant while no push is at work.
@@ -211,24 +293,44 @@ func (d *Door) alone(name string, do func() error) func() error {
 	}
 }
 
-// operate asks something of the store about these tenants. A refusal is told in a sentence.
-func (d *Door) operate(names []string, do func() error) error {
+// operate asks something of the store about these tenants, which the audit has before. A refusal is told in a sentence.
+func (d *Door) operate(ctx context.Context, what, names []string, do func() error) error {
 	for _, name := range names {
 		if !tenants.ValidName(name) {
 			return tenants.Fault{Number: 32}
 		}
+	}
+	if err := d.note(ctx, what, nil); err != nil {
+		return fmt.Errorf("the audit cannot be written, so nothing is changed: %w", err)
 	}
 	err := do()
 	var refused *store.Refused
 	if errors.As(err, &refused) {
 		err = tenants.Fault{Number: refused.Number}
 	}
+	if err != nil {
+		if unwritten := d.note(ctx, what, err); unwritten != nil {
+			d.site.Log.Printf("the audit cannot be written: %v", unwritten)
+		}
+	}
 	return err
 }
 
-// tenants has a line for each tenant.
-func (d *Door) tenants(context.Context, []string) (string, error) {
+func (d *Door) note(ctx context.Context, what []string, failed error) error {
+	if d.site.Folder == "" {
+		return nil
+	}
+	return audit.Note(d.site.Folder, audit.Of(ctx), strings.Join(what, " "), failed)
+}
+
+// tenants has a line for each tenant, as the children tell it now.
+func (d *Door) tenants(ctx context.Context, _ []string) (string, error) {
 	var text strings.Builder
+	soon, stop := context.WithTimeout(ctx, countWithin)
+	defer stop()
+	if err := d.store.RecountAll(soon); err != nil {
+		return "", fmt.Errorf("what tenants have cannot be counted now: %w", err)
+	}
 	for _, it := range d.store.Usages() {
 		fmt.Fprintf(&text, "%s objects %d refs %d bytes %d own %d since %d quota %d", it.Name, it.Objects, it.Refs, it.Bytes, it.Own,
 			it.Since, d.site.Limits.Quota(it.Name))
@@ -252,8 +354,10 @@ func (d *Door) status(context.Context, []string) (string, error) {
 	line("version", d.site.Version)
 	line("answering", state.IsAnswering)
 	line("child", childrenOf(states))
-	line("child-bytes", residentOf(states))
-	line("server-bytes", child.Resident(os.Getpid()))
+	memory, own := memoryOf(states...), child.MemoryOf(os.Getpid())
+	line("child-bytes", memory.Anonymous)
+	line("child-file-bytes", memory.File)
+	line("server-bytes", own.Anonymous+own.File)
 	line("connections", d.site.Limits.Connections())
 	line("streams", state.Streams)
 	line("steps", state.Steps)
@@ -277,6 +381,7 @@ func (d *Door) status(context.Context, []string) (string, error) {
 	line("failed-saves", state.FailedSaves)
 	line("last-save", when(state.LastSave))
 	line("children-replaced", state.Recoveries)
+	tellEnds(line, states)
 	for _, err := range d.site.Unread() {
 		line("list-unread", err)
 	}
@@ -326,11 +431,17 @@ func (d *Door) Measure() {
 		number(func(s store.State) int64 { return one(s.IsAnswering) }))
 	m.Gauge("gitpoold_open_streams", "Streams that are open.", number(func(s store.State) int64 { return int64(s.Streams) }))
 	m.Gauge("gitpoold_connections", "Connections that are open.", func() float64 { return float64(d.site.Limits.Connections()) })
-	m.Gauge("gitpoold_child_resident_bytes", "The memory of the children.", func() float64 { return float64(residentOf(d.store.States())) })
+	m.Gauge("gitpoold_child_resident_anonymous_bytes", "The memory of the children's own.",
+		func() float64 { return float64(memoryOf(d.store.States()...).Anonymous) })
+	m.Gauge("gitpoold_child_resident_file_bytes", "What is in memory of the files that the children map, which the kernel may drop and read again.",
+		func() float64 { return float64(memoryOf(d.store.States()...).File) })
 	m.Gauge("gitpoold_lists_unread", "Lists of the operator that cannot be read; what was read before holds.",
 		func() float64 { return float64(len(d.site.Unread())) })
 	m.Gauge("gitpoold_shards", "Shards.", func() float64 { return float64(d.store.Count()) })
-	m.Gauge("gitpoold_server_resident_bytes", "The memory of the server.", func() float64 { return float64(child.Resident(os.Getpid())) })
+	m.Gauge("gitpoold_server_resident_bytes", "The memory of the server.", func() float64 {
+		own := child.MemoryOf(os.Getpid())
+		return float64(own.Anonymous + own.File)
+	})
 }
 
 // measureLog lets metrics tell how a journal in Redis stands.
@@ -372,30 +483,3 @@ func one(is bool) int64 {
 	}
 	return 0
 }
-
-// Call sends a command to the server of a socket, and gives its text. An error is the server's sentence.
-func Call(path string, words ...string) (string, error) {
-	conn, err := net.Dial("unix", path)
-	if err != nil {
-		return "", ErrNoServer
-	}
-	defer conn.Close()
-	if _, err := fmt.Fprintln(conn, strings.Join(words, " ")); err != nil {
-		return "", err
-	}
-	text, err := io.ReadAll(conn)
-	if err != nil {
-		return "", err
-	}
-	head, rest, _ := strings.Cut(string(text), "\n")
-	if head == "ok" {
-		return rest, nil
-	}
-	if sentence := strings.TrimPrefix(head, "error "); sentence != head {
-		return "", errors.New(sentence)
-	}
-	return "", errors.New("the server ended before it answered")
-}
-
-// ErrNoServer says that no server answers at a socket.
-var ErrNoServer = errors.New("no server runs there")

@@ -46,8 +46,8 @@ func logsTogether(one, other *journal.RedisCounts) *journal.RedisCounts {
 func tellShards(text *strings.Builder, states []store.State) {
 	fmt.Fprintf(text, "%-18s %d\n", "shards", len(states))
 	for at, it := range states {
-		fmt.Fprintf(text, "%-18s answering %v child %d child-bytes %d tenants %d bytes %d streams %d journal-bytes %d journal-broken %v last-save %s\n",
-			fmt.Sprintf("shard-%d", at+1), it.IsAnswering, it.ChildPid, childBytes(it), it.Tenants, it.TenantBytes, it.Streams,
+		fmt.Fprintf(text, "%-18s answering %v child %d child-bytes %d child-file-bytes %d tenants %d bytes %d streams %d journal-bytes %d journal-broken %v last-save %s\n",
+			fmt.Sprintf("shard-%d", at+1), it.IsAnswering, it.ChildPid, memoryOf(it).Anonymous, memoryOf(it).File, it.Tenants, it.TenantBytes, it.Streams,
 			it.JournalBytes, it.JournalBroken, when(it.LastSave))
 	}
 }
@@ -61,15 +61,23 @@ func childrenOf(states []store.State) string {
 	return strings.Join(pids, " ")
 }
 
-// childBytes is how much memory the child of a shard has, and the second one while there is one.
-func childBytes(it store.State) int64 {
-	return child.Resident(it.ChildPid) + child.Resident(it.SecondPid)
+// memoryOf is how much memory the children of some shards have, and the second one while there is one.
+func memoryOf(states ...store.State) (all child.Memory) {
+	for _, it := range states {
+		for _, pid := range []int{it.ChildPid, it.SecondPid} {
+			one := child.MemoryOf(pid)
+			all.Anonymous += one.Anonymous
+			all.File += one.File
+		}
+	}
+	return all
 }
 
-// residentOf is how much memory the children have.
-func residentOf(states []store.State) (bytes int64) {
-	for _, it := range states {
-		bytes += childBytes(it)
+// tellEnds has a line for each shard whose child has ended although nobody told it to.
+func tellEnds(line func(name string, value any), states []store.State) {
+	for at, it := range states {
+		if it.LastEnd != "" {
+			line("child-ended", fmt.Sprintf("%s in shard %d: %s", when(it.EndedAt), at+1, it.LastEnd))
+		}
 	}
-	return bytes
 }

@@ -54,3 +54,27 @@ func Read(path string) ([]byte, error) {
 	defer file.Close()
 	return io.ReadAll(file)
 }
+
+// Owner gives the user and the group to whom a file or a folder belongs.
+func Owner(path string) (user, group int, err error) {
+	info, err := os.Stat(path)
+	if err != nil {
+		return 0, 0, err
+	}
+	of := info.Sys().(*syscall.Stat_t)
+	return int(of.Uid), int(of.Gid), nil
+}
+
+// Own gives a file to the owner of a folder. Where root has made it, the server, which is another user then, could not open it. Whoever may not give
+// it away is refused.
+func Own(file *os.File, folder string) error {
+	user, group, err := Owner(folder)
+	if err != nil {
+		return err
+	}
+	info, err := file.Stat()
+	if err != nil || int(info.Sys().(*syscall.Stat_t).Uid) == user {
+		return err
+	}
+	return file.Chown(user, group)
+}

@@ -59,8 +59,12 @@ def refused_at_the_quota(room: ServerRoom, tenant: str, stream: bytes) -> int:
         asker.is_over.set()
         asker.join()
     assert b"as many bytes as its quota allows" in told and told.endswith(b"(fault 25)\ngitpool: fault 25\n"), told
-    assert asker.longest < 2 and asker.count > 1, (asker.longest, asker.count)
+    assert asker.longest < 4 and asker.count > 1, (asker.longest, asker.count)
     return bytes_of(room, tenant)
+
+
+def status_of(room: ServerRoom, tenant: str, stream: bytes) -> int:
+    return by_ssh(room, room.path("key"), "alice", f"import {tenant}", stream).returncode
 
 
 @over_http
@@ -69,17 +73,45 @@ def streams_stay_within_the_quota(room: ServerRoom) -> None:
     site = room.pushed()
     room.serverd("limits", room.served, "quota", str(QUOTA))
     assert refused_at_the_quota(room, "acme/wide", wide(COMMITS)) == 0
+    # The trees of these have 10 to 40 MB, which the child's memory does not tell from what a stream takes beside.
+    for commits in (17, 30, 40, 60):
+        assert refused_at_the_quota(room, "acme/wide", wide(commits)) == 0, commits
     left = refused_at_the_quota(room, "acme/saved", wide(COMMITS, ending=b"checkpoint\n"))
-    assert QUOTA < left < QUOTA + (4 << 20), left
+    assert QUOTA - (1 << 20) < left <= QUOTA, left
     # The child keeps the memory of small trees that a stream wrote and that were dropped, so the next stream lets it grow by less.
     for tenant in ("acme/small", "acme/small", "acme/other"):
         assert refused_at_the_quota(room, tenant, wide(2700, files=500)) == 0
     # What one stream left counts for the next one.
     said(room, "import acme/twice", wide(0))
-    more = [wide(8, b"from refs/heads/main^0\n", front=front) for front in "abcd"]
-    status = [by_ssh(room, room.path("key"), "alice", "import acme/twice", it).returncode for it in more]
+    more = [wide(7, b"from refs/heads/main^0\n", front=front) for front in "abcd"]
+    status = [status_of(room, "acme/twice", it) for it in more]
     assert status == [0, 0, 1, 1], status
-    assert bytes_of(room, "acme/twice") < QUOTA + (8 << 20), bytes_of(room, "acme/twice")
+    assert bytes_of(room, "acme/twice") <= QUOTA, bytes_of(room, "acme/twice")
+    room.same(site)
+
+
+@over_http
+def streams_fill_the_quota_to_the_byte(room: ServerRoom) -> None:
+    """A stream that leaves as many bytes as the quota says is let in, and with one byte less it is refused. So is a checkpoint."""
+    site = room.pushed()
+    before, stream = wide(1), wide(6, b"from refs/heads/main^0\n", front="y")
+    for tenant in ("acme/free", "acme/full", "acme/short"):
+        said(room, f"import {tenant}", before)
+    had = bytes_of(room, "acme/free")
+    said(room, "import acme/free", stream)
+    whole = bytes_of(room, "acme/free")
+    assert had + (6 * 400_000) < whole < 10 * had, (had, whole)
+    room.serverd("limits", room.served, "quota", "acme/full", str(whole))
+    room.serverd("limits", room.served, "quota", "acme/short", str(whole - 1))
+    for ending in (b"", b"checkpoint\n"):
+        assert refused_at_the_quota(room, "acme/short", stream + ending) == had
+    assert status_of(room, "acme/full", stream) == 0
+    assert refused_at_the_quota(room, "acme/full", stream) == whole
+    # A stream is longer than the room, and tells what is there already.
+    contents = b"blob\ndata 300000\n" + b"x" * 300_000 + b"\n"
+    room.serverd("limits", room.served, "quota", "acme/short", str(had + 400_000))
+    said(room, "import acme/short", contents * 20)
+    assert bytes_of(room, "acme/short") == had + 300_000
     room.same(site)
 
 

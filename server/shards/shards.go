@@ -414,10 +414,27 @@ func (s *Set) emptiest(tenants []int) int {
 // Bytes tells how many bytes a tenant has.
 func (s *Set) Bytes(tenant string) int64 { return s.storeOf(tenant).Bytes(tenant) }
 
+// AtMost tells how many bytes a tenant has at most.
+func (s *Set) AtMost(tenant string) int64 { return s.storeOf(tenant).AtMost(tenant) }
+
+// Recount asks the tenant's child what it has, unless nothing of it has changed.
+func (s *Set) Recount(ctx context.Context, tenant string) error {
+	return s.storeOf(tenant).Recount(ctx, tenant)
+}
+
 // Kept gives what a tenant's stream with a token was answered, if it ended well and that is kept.
 func (s *Set) Kept(tenant, token string) (answers.Answer, bool) {
 	return s.storeOf(tenant).Kept(tenant, token)
 }
+
+// RecountAll asks all children what tenants have, for Usages and Bytes.
+func (s *Set) RecountAll(ctx context.Context) error {
+	s.freshAll()
+	return s.each(func(it *store.Store) error { return it.RecountAll(ctx) })
+}
+
+// Has tells whether a tenant has something, when the children were last asked or since.
+func (s *Set) Has(tenant string) bool { return s.storeOf(tenant).Has(tenant) }
 
 // Usages gives what each tenant has, in the order of their names.
 func (s *Set) Usages() (all []store.Usage) {

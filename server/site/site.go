@@ -4,6 +4,7 @@ package site
 import (
 	"context"
 	"errors"
+	"fmt"
 	"time"
 
 	"gitpoold/access"
@@ -46,6 +47,8 @@ type Site struct {
 	Elsewhere func() error
 	// SSHPort is where git finds the server over ssh, 0 where it does not; pages show it.
 	SSHPort int
+	// Folder is the server's, which has the audit of operators; "" has none.
+	Folder string
 	// Markdown writes a README for pages; nil shows it as text.
 	Markdown func(contents []byte, resolve func(path, fragment string, isImage bool) string) (string, error)
 }
@@ -76,7 +79,7 @@ func (s *Site) Open(user, tenant string, right access.Right) (tenants.Tenant, er
 		}
 	}
 	opened, err := s.Pool.Tenant(tenant)
-	return opened.By(user), err
+	return opened.By(access.Person(user)), err
 }
 
 // lookEvery is how often the blocks are looked at for all users who are at work.
@@ -105,14 +108,28 @@ func (s *Site) Watch(ctx context.Context, user, tenant string, right access.Righ
 	return watched, stop
 }
 
+// Read reads the lists of the operator again that belong to one of these: access, limits or hooks. The error says why they cannot be read, so that
+// what was read before holds.
+func (s *Site) Read(list string) error {
+	of := map[string]interface{ Unread() error }{"access": s.Access, "limits": s.Limits}
+	if s.Hooks != nil {
+		of["hooks"] = s.Hooks
+	}
+	it, has := of[list]
+	if !has {
+		return fmt.Errorf("there is no list %q", list)
+	}
+	return it.Unread()
+}
+
 // Unread says why lists of the operator cannot be read, so that what was read before holds.
 func (s *Site) Unread() (all []error) {
-	of := []interface{ Unread() error }{s.Access, s.Limits}
+	of := []string{"access", "limits"}
 	if s.Hooks != nil {
-		of = append(of, s.Hooks)
+		of = append(of, "hooks")
 	}
 	for _, it := range of {
-		if err := it.Unread(); err != nil {
+		if err := s.Read(it); err != nil {
 			all = append(all, err)
 		}
 	}

@@ -57,7 +57,7 @@ func TestAQueueInTheLibraryIsBounded(t *testing.T) {
 	const writers, each = 8, 4 << 20
 	ended := make(chan error, 2*writers)
 	for count := 0; count < writers; count++ {
-		channel := &paced{queue, socket}
+		channel := &paced{Channel: queue, pace: socket}
 		for _, to := range []io.Writer{channel, channel.Stderr()} {
 			go func(to io.Writer) {
 				_, err := to.Write(make([]byte, each))

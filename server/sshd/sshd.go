@@ -5,6 +5,7 @@ package sshd
 import (
 	"context"
 	"errors"
+	"io"
 	"net"
 	"sync"
 	"sync/atomic"
@@ -156,15 +157,19 @@ func (s *server) sessions(ctx context.Context, conn *ssh.ServerConn, pace *pace,
 	idle := time.AfterFunc(s.Limits.Get().Handshake, func() { conn.Close() })
 	defer idle.Stop()
 	for asked := range channels {
-		channel, requests := accept(asked, places)
+		channel, requests, leave := s.accept(asked, places, conn.Permissions.Extensions[userKey])
 		if channel == nil {
 			continue
 		}
 		idle.Stop()
-		channel = &patient{&paced{channel, pace}, s.Limits, func() { conn.Close() }}
+		pace.open(1)
+		go io.Copy(io.Discard, channel.Stderr())
+		channel = &patient{&paced{Channel: channel, pace: pace}, s.Limits, func() { conn.Close() }}
 		running.Add(1)
 		go func() {
 			defer running.Done()
+			defer pace.open(-1)
+			defer leave()
 			it := &session{server: s, conn: conn, channel: channel, user: conn.Permissions.Extensions[userKey],
 				address: host(conn.RemoteAddr())}
 			if it.serve(ctx, requests) {
@@ -191,22 +196,29 @@ func (s *server) free(places chan struct{}, idle *time.Timer) (last bool) {
 	return true
 }
 
-// accept takes a channel if it is a session and there is a place for it.
-func accept(asked ssh.NewChannel, places chan struct{}) (ssh.Channel, <-chan *ssh.Request) {
+// accept takes a channel if it is a session and there is a place for it, and gives the call that counts it no more for its user.
+func (s *server) accept(asked ssh.NewChannel, places chan struct{}, user string) (ssh.Channel, <-chan *ssh.Request, func()) {
 	if asked.ChannelType() != "session" {
 		_ = asked.Reject(ssh.UnknownChannelType, "this server has sessions alone")
-		return nil, nil
+		return nil, nil, nil
+	}
+	leave, err := s.Limits.EnterSession(user)
+	if err != nil {
+		_ = asked.Reject(ssh.ResourceShortage, err.Error())
+		return nil, nil, nil
 	}
 	select {
 	case places <- struct{}{}:
 	default:
+		leave()
 		_ = asked.Reject(ssh.ResourceShortage, "this connection has too many sessions")
-		return nil, nil
+		return nil, nil, nil
 	}
 	channel, requests, err := asked.Accept()
 	if err != nil {
+		leave()
 		<-places
-		return nil, nil
+		return nil, nil, nil
 	}
-	return channel, requests
+	return channel, requests, leave
 }

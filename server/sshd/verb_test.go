@@ -297,7 +297,9 @@ func passALimit(t *testing.T, lines, says string) {
 	it := r.begin("alice", "import a")
 	it.in.Write([]byte(commit + "checkpoint\n" + strings.ReplaceAll(commit, "main", "other")))
 	switch says {
-	case "stream-bytes", "quota":
+	case "quota":
+		fmt.Fprintf(it.in, "\nblob\ndata 300000\n%s\ncheckpoint\n", strings.Repeat("x", 300_000))
+	case "stream-bytes":
 		it.in.Write(bytes.Repeat([]byte("#"+strings.Repeat("x", 99)+"\n"), 3000))
 	case "stream-age":
 		go func() {
@@ -565,6 +567,10 @@ func TestManyConnectionsOfOneKey(t *testing.T) {
 				t.Error(status, it.said.String())
 			}
 		}()
+		if i%5 == 4 {
+			// More at once than 10 beside those at work are refused when they open.
+			wait.Wait()
+		}
 	}
 	wait.Wait()
 	for _, it := range all {
@@ -638,7 +644,9 @@ func TestATokenUsedTwiceAtOnce(t *testing.T) {
 // TestATokenIsToldWhateverLimitsSay sends a stream again when its tenant is full, and when its user has as many streams as may be.
 func TestATokenIsToldWhateverLimitsSay(t *testing.T) {
 	text := []byte(commit + "progress x\n")
-	r := served(t, 1, fmt.Sprintf("quota a %d\nstreams-by-user 1\n", len(text)))
+	// What the stream leaves: a commit of 97 bytes, a tree of none, and a ref.
+	const full = 97 + len("refs/heads/main") + 64
+	r := served(t, 1, fmt.Sprintf("quota a %d\nstreams-by-user 1\n", full))
 	first := r.run("alice", "import a --token x", text)
 	it := r.begin("alice", "frames b")
 	it.ask(t, frames.Open, "b", "")

@@ -290,6 +290,7 @@ func (s *Store) addFed(tenant string, fed int64) {
 	s.mutex.Lock()
 	defer s.mutex.Unlock()
 	s.since[tenant] += fed
+	s.bounds[tenant] = unbounded
 	s.total += fed
 }
 

@@ -128,3 +128,19 @@ func (g *gate) wait(ctx context.Context, may func() bool) error {
 		}
 	}
 }
+
+// Unsaved lets nothing be saved, and no request of the operator begin, until the call that it gives.
+func (s *Store) Unsaved(ctx context.Context) (end func(), err error) {
+	if err := s.beginMaintenance(ctx); err != nil {
+		return nil, err
+	}
+	return s.endMaintenance, nil
+}
+
+// Shut lets no step come to the child or into the journal until the call that it gives. The caller has what Unsaved gives.
+func (s *Store) Shut(ctx context.Context) (open func(), err error) {
+	if err := s.steps.shut(ctx); err != nil {
+		return nil, err
+	}
+	return s.steps.open, nil
+}

@@ -51,7 +51,8 @@ func (s *Store) Extract(ctx context.Context, tenant, to string) error {
 
 // runProgram runs a subcommand of the program to its end.
 func (s *Store) runProgram(ctx context.Context, words ...string) error {
-	command := exec.Command(s.config.Program, words...)
+	behind := child.Behind(s.config.Program, words...)
+	command := exec.Command(behind[0], behind[1:]...)
 	var said strings.Builder
 	command.Stdout, command.Stderr = &said, &said
 	if err := child.StartTied(command); err != nil {
@@ -75,14 +76,17 @@ func (s *Store) runProgram(ctx context.Context, words ...string) error {
 // Merge adds the tenant of a pool file that has no other one. The store may not have it. It lasts when Merge returns nil. Reading goes on meanwhile,
 // and pushes wait. On an error the store may have the tenant, or may get it at its next start: see Has.
 func (s *Store) Merge(ctx context.Context, tenant, file string) error {
-	if err := s.beginMaintenance(ctx); err != nil {
-		return err
-	}
-	defer s.endMaintenance()
+	s.merging.Lock()
+	defer s.merging.Unlock()
+	// A stream may need the turn of maintenance to end.
 	if err := s.waitForStreams(ctx); err != nil {
 		return err
 	}
 	defer s.streams.open()
+	if err := s.beginMaintenance(ctx); err != nil {
+		return err
+	}
+	defer s.endMaintenance()
 	if err := s.removeHalfMerged(ctx); err != nil {
 		return err
 	}

@@ -272,9 +272,10 @@ func (it *second) dismiss() {
 	faultpoint.Here("after a second child is ended")
 }
 
-// hasMemory asks that the machine has memory for what a child has once more, and some beside.
+// hasMemory asks that the machine has memory for what a child has of its own once more, and some beside.
 func hasMemory(process *child.Process) error {
-	needed := process.Resident() + process.Resident()/4
+	own := process.Memory().Anonymous
+	needed := own + own/4
 	if available, isKnown := availableMemory(); isKnown && available < needed {
 		return fmt.Errorf("it needs %d MB of memory, and the machine has %d MB", needed>>20, available>>20)
 	}

@@ -304,7 +304,7 @@ func TestASecondChildHasTooLittleMemory(t *testing.T) {
 	c := always(plain(t, folder(t)))
 	count := heard(&c)
 	s := opened(t, c)
-	pushAll(t, s, strings.Repeat("x", 30<<10))
+	pushAll(t, s, strings.Repeat("x", 4<<20))
 	s.config.ChildMemory = 1 << 20
 	must(t, s.Save(background))
 	if count("there is no second child") != 1 || s.State().SecondPid != 0 {

@@ -40,6 +40,21 @@ func (s *Store) readSizes(process *child.Process) error {
 	return nil
 }
 
+// RecountAll asks the child what tenants have at their last checkpoints, for Usages and Bytes. It waits for its turn as long as the context lasts.
+func (s *Store) RecountAll(ctx context.Context) error {
+	if s.isClosing() {
+		return ErrClosed
+	}
+	for _, hold := range []func(context.Context) (func(), error){s.Unsaved, s.holdTurn, s.Shut} {
+		end, err := hold(ctx)
+		if err != nil {
+			return err
+		}
+		defer end()
+	}
+	return s.readSizes(s.process)
+}
+
 func parseSizes(reply []byte) (map[string]Size, error) {
 	sizes := map[string]Size{}
 	for _, line := range bytes.Split(bytes.TrimSuffix(reply, []byte("\n")), []byte("\n")) {
@@ -144,5 +159,30 @@ func (s *Store) takeSizes(sizes map[string]Size, known map[string]refSize, fed m
 			delete(known, name)
 		}
 	}
-	s.sizes, s.refs, s.since, s.total = sizes, known, map[string]int64{}, total
+	s.sizes, s.refs, s.since, s.bounds, s.total = sizes, known, map[string]int64{}, map[string]int64{}, total
+}
+
+// unbounded is a bound that says nothing.
+const unbounded = 1 << 62
+
+// sum adds bounds.
+func sum(a, b int64) int64 {
+	if a >= unbounded-b {
+		return unbounded
+	}
+	return a + b
+}
+
+// AtMost tells how many bytes a tenant has at most.
+func (s *Store) AtMost(tenant string) int64 {
+	s.mutex.Lock()
+	defer s.mutex.Unlock()
+	return sum(s.sizes[tenant].Bytes, s.bounds[tenant])
+}
+
+// isCounted tells whether nothing has changed in a tenant since the child was asked what it has.
+func (s *Store) isCounted(tenant string) bool {
+	s.mutex.Lock()
+	defer s.mutex.Unlock()
+	return s.since[tenant] == 0 && s.bounds[tenant] == 0
 }

@@ -43,7 +43,10 @@ func (s *Store) start() error {
 		os.RemoveAll(room)
 		// The journal may have gone on without steps of streams that the child before had: these write no more.
 		s.process = process
-		return &loadError{err, said.last()}
+		if last := said.last(); last != "" || !errors.Is(err, child.ErrGone) {
+			return &loadError{err, last}
+		}
+		return &loadError{err, "the child ended: " + child.Why(process.Err())}
 	}
 	os.RemoveAll(s.room)
 	s.process, s.room, s.losses = process, room, s.journal.Losses()
@@ -88,10 +91,10 @@ func (s *Store) startChildIn(room, pool string, said io.Writer) (*child.Process,
 	if err := linkOrCopy(pool, file); err != nil {
 		return nil, err
 	}
-	words := []string{s.config.Program, "host", "--pool", file}
+	words := child.Behind(s.config.Program, "host", "--pool", file)
 	if s.config.ChildMemory > 0 {
 		kilobytes := strconv.FormatInt(s.config.ChildMemory/1024, 10)
-		words = append([]string{"sh", "-c", `ulimit -v "$0" && exec "$@"`, kilobytes}, words...)
+		words = append([]string{"sh", "-c", `ulimit -d "$0" && exec "$@"`, kilobytes}, words...)
 	}
 	return child.Start(words, said)
 }
@@ -140,7 +143,9 @@ func (s *Store) watch(process *child.Process) {
 	if s.process != process {
 		return
 	}
-	s.config.Tell("the child ended: %v; another one is started", process.Err())
+	why := child.Why(process.Err())
+	s.count(func(c *Counts) { c.LastEnd, c.EndedAt = why, time.Now() })
+	s.config.Tell("the child ended: %s; another one is started", why)
 	_ = s.steps.shut(context.Background())
 	s.revive()
 	s.steps.open()

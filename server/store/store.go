@@ -25,6 +25,7 @@ import (
 	"gitpoold/frames"
 	"gitpoold/journal"
 	"gitpoold/poolfile"
+	"gitpoold/regular"
 )
 
 var (
@@ -50,7 +51,7 @@ type Config struct {
 	Folder string
 	// Program is the path of `gitpool`.
 	Program string
-	// ChildMemory is the most bytes of address space that the child may take, 0 for no limit.
+	// ChildMemory is the most bytes of its own that the child may take, without the files that it maps; 0 for no limit.
 	ChildMemory int64
 	// Log says which log in Redis has the journal; without it, the journal is in the folder's files.
 	Log *journal.Options
@@ -99,8 +100,9 @@ type Store struct {
 	answers *answers.Kept
 	keeping sync.WaitGroup
 
-	// Each stream is inside `streams`. While that gate is shut, no stream is open and none begins.
+	// Each stream is inside `streams`. While that gate is shut, no stream is open and none begins. Who shuts it has `merging`.
 	streams *gate
+	merging sync.Mutex
 
 	mutex  sync.Mutex
 	newest *child.Process
@@ -110,6 +112,8 @@ type Store struct {
 	sizes  map[string]Size
 	refs   map[string]refSize
 	since  map[string]int64
+	// bounds are the most that tenants may have beside their sizes.
+	bounds map[string]int64
 	total  int64
 	counts Counts
 	taken  atomic.Int64
@@ -125,6 +129,9 @@ type Store struct {
 type Counts struct {
 	Steps, Pushes, Refused, GivenUp, Saves, FailedSaves, Recoveries int64
 	LastSave                                                        time.Time
+	// LastEnd says how the last child ended that nobody told to end, and EndedAt when; both are empty where none did.
+	LastEnd string
+	EndedAt time.Time
 }
 
 // Open takes a pool up: it reads the journal through, starts the child, and carries out what the pool file has not.
@@ -209,6 +216,23 @@ func lockAll(folder, pool string) (l locks, err error) {
 func isSameFolder(one, other string) bool {
 	real, err := filepath.EvalSymlinks(filepath.Dir(other))
 	return err == nil && one == filepath.Join(real, filepath.Base(other))
+}
+
+// Hold keeps servers from a folder, in which none runs, until the call that it gives. It is ErrInHand where one runs.
+func Hold(folder string) (release func(), err error) {
+	pool, err := poolfile.Find(filepath.Join(folder, "pool"))
+	if err != nil {
+		return nil, err
+	}
+	held, err := lockAll(folder, pool)
+	if err != nil {
+		return nil, err
+	}
+	if err := regular.Own(held.folder, folder); err != nil {
+		held.close()
+		return nil, err
+	}
+	return held.close, nil
 }
 
 // lockWait is how long a lock is waited for. A server that is killed while it starts a process leaves its locks to that process, which has them

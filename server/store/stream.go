@@ -37,6 +37,9 @@ type Stream struct {
 	mutex    sync.Mutex
 	fed      int64
 	isClosed bool
+	// fedBefore and grownBefore are of when the child was last asked what the tenant has, and bound is the most that the stream has left since.
+	fedBefore, grownBefore int64
+	bound                  atomic.Int64
 	// kept is what the stream was answered before its End, if that is to be kept.
 	kept *answers.Answer
 	// These are what the child took for the stream, if its form is Checkpoints, and its memory at the last answer.
@@ -116,6 +119,7 @@ func Late(err error) error {
 // had to wait for longer than the context lasts because a tenant is moved.
 func (s *Store) Begin(ctx context.Context, tenant string, form Form) (*Stream, error) {
 	st := &Stream{store: s, tenant: tenant, form: form}
+	st.bound.Store(unbounded)
 	if err := s.streams.enter(ctx); err != nil {
 		return nil, Late(err)
 	}
@@ -199,53 +203,16 @@ func (st *Stream) Cost() child.Cost {
 	return child.Cost{Took: time.Duration(st.took.Load()), Grown: st.grown.Load(), Resident: st.resident.Load()}
 }
 
-// besideContents is what the child has for each object beside its contents, and besideNames what a tenant has for one that another has too.
-const (
-	besideContents = 200
-	besideNames    = 28
-)
+// Bounded says how many bytes of objects and refs the stream has told so far at most, since the child was last asked what the tenant has.
+func (st *Stream) Bounded(bytes int64) { st.bound.Store(bytes) }
 
-// Spare is how much memory the child has, about, beside what tenants have: it was freed, and who takes it does not let the child grow.
-func (st *Stream) Spare() int64 {
-	spare := st.process.Resident()
-	s := st.store
-	s.mutex.Lock()
-	defer s.mutex.Unlock()
-	shared := int64(0)
-	for _, size := range s.sizes {
-		spare -= size.Own + besideNames*size.Objects
-		if size.Bytes > 0 {
-			spare -= int64(besideContents * float64(size.Objects) * float64(size.Own) / float64(size.Bytes))
-		}
-		if size.Bytes-size.Own > shared {
-			shared = size.Bytes - size.Own
-		}
+// Recount asks the child what tenants have at their last checkpoints, for Bytes, unless nothing of the tenant has changed. It waits for its turn as
+// long as the context lasts.
+func (s *Store) Recount(ctx context.Context, tenant string) error {
+	if s.isCounted(tenant) {
+		return nil
 	}
-	for _, since := range s.since {
-		spare -= since
-	}
-	if spare -= shared; spare < 0 {
-		return 0
-	}
-	return spare
-}
-
-// Recount asks the child what tenants have at their last checkpoints, for Bytes. It waits for its turn as long as the context lasts. The stream may
-// be open or not.
-func (st *Stream) Recount(ctx context.Context) error {
-	s := st.store
-	if s.isClosing() {
-		return ErrClosed
-	}
-	if err := s.beginMaintenance(ctx); err != nil {
-		return err
-	}
-	defer s.endMaintenance()
-	if err := s.steps.shut(ctx); err != nil {
-		return err
-	}
-	defer s.steps.open()
-	return s.readSizes(s.process)
+	return s.RecountAll(ctx)
 }
 
 // enter goes in where the stream is open and its child is the one that there is.
@@ -253,22 +220,41 @@ func (st *Stream) enter(ctx context.Context) error {
 	if err := st.store.enter(ctx); err != nil {
 		return err
 	}
-	if st.isClosed || st.process != st.store.process {
+	err := st.isOpen()
+	if err != nil {
 		st.store.steps.leave()
-		if st.isClosed {
-			return &Refused{30}
-		}
+	}
+	return err
+}
+
+// isOpen is an error where the stream is closed, or its child is not the one that there is.
+func (st *Stream) isOpen() error {
+	switch {
+	case st.isClosed:
+		return &Refused{30}
+	case st.process != st.store.process:
 		return child.ErrGone
 	}
 	return nil
 }
 
+// isThere does the same, and is an error too where the journal lacks what the stream was fed.
+func (st *Stream) isThere() error {
+	err := st.isOpen()
+	if err == nil && !st.isInJournal() {
+		err = journal.ErrBroken
+	}
+	return err
+}
+
 // enterWhole goes in where the journal has what the stream was fed, too.
 func (st *Stream) enterWhole(ctx context.Context) error {
-	err := st.enter(ctx)
-	if err == nil && !st.isInJournal() {
+	if err := st.store.enter(ctx); err != nil {
+		return err
+	}
+	err := st.isThere()
+	if err != nil {
 		st.store.steps.leave()
-		err = journal.ErrBroken
 	}
 	return err
 }
@@ -408,12 +394,17 @@ func (s *Store) noteGivenUp(tenant string) {
 // tellingGrowth is how much more than its bytes a stream takes of the child's memory where that says something.
 const tellingGrowth = 1 << 20
 
-// brought is how much the stream may have left: its bytes, or as much as the child's memory grew by, where few bytes have written many.
+// brought is how much the stream may have left since the child was last asked: its bytes, or as much as the child's memory grew by, where few bytes
+// have written many; and no more than it is bounded by.
 func (st *Stream) brought() int64 {
-	if grown := st.grown.Load(); grown > st.fed+tellingGrowth {
-		return grown
+	fed, grown := st.fed-st.fedBefore, st.grown.Load()-st.grownBefore
+	if grown > fed+tellingGrowth {
+		fed = grown
 	}
-	return st.fed
+	if most := st.bound.Load(); fed > most {
+		return most
+	}
+	return fed
 }
 
 // close lets the tenant have another stream.
@@ -430,6 +421,7 @@ func (st *Stream) close(well bool) {
 	if well || st.form == Checkpoints {
 		s.since[st.tenant] += st.brought()
 		s.total += st.brought()
+		s.bounds[st.tenant] = sum(s.bounds[st.tenant], st.bound.Load())
 	}
 	s.mutex.Unlock()
 	s.streams.leave()

@@ -42,46 +42,26 @@ func TestStepsAreShort(t *testing.T) {
 	}
 }
 
-// TestGrowth fills a room by bytes, and by memory that the child takes.
+// TestGrowth fills a room by memory that the child takes.
 func TestGrowth(t *testing.T) {
 	const room = 10 << 20
 	g := growth{room: room}
-	g.add(room, child.Cost{Grown: 8 * room})
-	if g.isBeyond(0) || !g.isBeyond(1) {
-		t.Error("the bytes of the stream")
-	}
-	g = growth{room: room}
 	parts := 0
 	for ; !g.isBeyond(0); parts++ {
-		g.add(75, child.Cost{Grown: 650_000})
+		g.add(child.Cost{Grown: 650_000})
 	}
 	if taken := int64(parts) * 650_000; taken < room+workBytes || taken > room+workBytes+(jumps+2)*650_000 {
 		t.Errorf("%d bytes are let through", taken)
 	}
 	// The tables of all tenants are doubled, and a stream of tiny blobs takes much beside its contents.
 	g = growth{room: room}
-	for at := 0; at < 1000; at++ {
-		g.add(10_000, child.Cost{Grown: 70_000})
+	for at := int64(0); at < 1000; at++ {
+		g.add(child.Cost{Grown: 70_000})
 		if at%400 == 0 {
-			g.add(0, child.Cost{Grown: 300 << 20})
+			g.add(child.Cost{Grown: 300 << 20})
 		}
-		if g.isBeyond(0) {
+		if g.isBeyond(280 * at) {
 			t.Fatal("refused at", at)
 		}
-	}
-	// The child has memory that was freed before, so it does not grow.
-	g = growth{room: room, spare: 100 << 20}
-	if g.add(75, child.Cost{Took: 600 * time.Millisecond}); g.isBeyond(0) {
-		t.Error("refused after little work")
-	}
-	if g.add(75, child.Cost{Took: 200 * time.Millisecond}); !g.isBeyond(0) {
-		t.Error("the child took what was freed before")
-	}
-	g = growth{room: room, spare: 1 << 20}
-	if g.add(75, child.Cost{Took: time.Hour}); g.isBeyond(0) {
-		t.Error("refused for time alone")
-	}
-	if g = (growth{grown: 10 << 20, fed: 1}); !g.isWorthACount(64<<20) || g.isWorthACount(1<<40) {
-		t.Error("when the child is asked")
 	}
 }

@@ -2,6 +2,7 @@ package streams
 
 import (
 	"context"
+	"errors"
 	"time"
 
 	"gitpoold/access"
@@ -44,7 +45,7 @@ func (u Use) open(ctx context.Context, token string) (*stream, *answers.Answer, 
 	if kept := u.Tenant.Kept(token); kept != nil {
 		return nil, kept, nil
 	}
-	_, err := u.Tenant.Room()
+	_, err := u.Tenant.RoomCounted(ctx)
 	if err == nil {
 		err = u.mayGoOn()
 	}
@@ -71,9 +72,8 @@ func (u Use) open(ctx context.Context, token string) (*stream, *answers.Answer, 
 	}
 	values := u.Site.Limits.Get()
 	s := &stream{Use: u, inner: inner, until: time.Now().Add(values.StreamAge), most: values.StreamBytes,
-		reader: fastimport.New(u.Tenant.Object), pace: newPace(), growth: growth{room: room, spare: inner.Spare()},
+		reader: fastimport.New(u.Tenant.Object), pace: newPace(), growth: growth{room: room},
 		answer: answers.New(token, nil), leave: leave, blocked: make(chan error), over: make(chan struct{})}
-	inner.AtEnd(s.recountAtEnd)
 	_, s.unwatch = u.Site.Watch(context.Background(), u.User, u.Tenant.Name(), access.Write, s.block)
 	if err := s.tellChanges(ctx); err != nil {
 		s.giveUp()
@@ -121,29 +121,59 @@ func (s *stream) feedPart(ctx context.Context, piece []byte, part fastimport.Par
 	if err := s.mayTake(int64(len(piece))); err != nil {
 		return frames.Answer{}, err
 	}
-	answer, err := s.feedInner(ctx, piece)
+	answer, err := s.feedFitting(ctx, piece, part)
 	if err != nil || answer.Status != frames.Ok {
 		return answer, err
 	}
-	cost := s.count(int64(len(piece)))
+	cost := s.count()
 	s.pace.adapt(part, cost.Took)
-	if part.HasCheckpoint && s.growth.isWorthACount(cost.Resident) {
-		if err := s.recount(ctx); err != nil {
-			return frames.Answer{}, err
-		}
-	}
-	if s.growth.isBeyond(0) {
+	if s.growth.isBeyond(s.reader.Things()) {
 		return frames.Answer{}, limits.ErrQuota
 	}
 	return answer, nil
 }
 
-// count counts more bytes of the stream, and what the child took since the last count, which it gives.
-func (s *stream) count(more int64) child.Cost {
+// fits tells whether the tenant may have whatever the stream has told. Else what it has is measured at the next checkpoint.
+func (s *stream) fits() bool { return s.inner.Fits(s.reader.Most(s.inner.Had())) }
+
+// feedFitting feeds a part. A checkpoint at its end is undone if the tenant may not have what it would have then.
+func (s *stream) feedFitting(ctx context.Context, piece []byte, part fastimport.Part) (frames.Answer, error) {
+	if s.fits() || !part.HasCheckpoint {
+		return s.feedInner(ctx, piece)
+	}
+	answer, err := s.inner.FeedMeasured(ctx, piece)
+	if err == nil && answer.Status == frames.Ok {
+		s.reader.Forget()
+		s.growth, err = s.newGrowth()
+	}
+	s.keepAnswer(answer)
+	return answer, atQuota(err)
+}
+
+// newGrowth begins to count anew, from what the tenant has now.
+func (s *stream) newGrowth() (growth, error) {
+	room, err := s.Tenant.Room()
+	if errors.Is(err, tenants.ErrFull) {
+		// What follows may be what the tenant has already.
+		err = nil
+	}
+	return growth{room: room}, err
+}
+
+// atQuota says in the words of streams that the tenant is full.
+func atQuota(err error) error {
+	if err == tenants.ErrFull {
+		return limits.ErrQuota
+	}
+	return err
+}
+
+// count counts what the child took since the last count, and gives it.
+func (s *stream) count() child.Cost {
 	all := s.inner.Cost()
 	cost := child.Cost{Took: all.Took - s.counted.Took, Grown: all.Grown - s.counted.Grown, Resident: all.Resident}
 	s.counted = all
-	s.growth.add(more, cost)
+	s.growth.add(cost)
 	return cost
 }
 
@@ -153,10 +183,14 @@ func (s *stream) feedInner(ctx context.Context, piece []byte) (frames.Answer, er
 		return frames.Answer{}, err
 	}
 	answer, err := wait(ctx)
+	s.keepAnswer(answer)
+	return answer, err
+}
+
+func (s *stream) keepAnswer(answer frames.Answer) {
 	if s.answer.Token != "" && len(answer.Reply) > 0 {
 		s.answer = s.answer.With(answer.Reply)
 	}
-	return answer, err
 }
 
 // Each part is a record of the journal, which has at most recordBytes beside. A stream takes at most journalFactor times as many bytes of the journal
@@ -175,8 +209,6 @@ func (s *stream) mayTake(more int64) error {
 		return limits.ErrStreamAge
 	case s.taken > s.most || s.journaled > journalFactor*s.most:
 		return limits.ErrStreamBytes
-	case s.growth.isBeyond(more):
-		return limits.ErrQuota
 	}
 	if err := s.Site.Access.Blocked(s.User, s.Tenant.Name(), access.Write); err != nil {
 		return err
@@ -190,7 +222,7 @@ func (s *stream) end(ctx context.Context) (answer frames.Answer, err error) {
 		s.inner.Keep(s.answer)
 	}
 	if err = s.mayTake(0); err == nil {
-		answer, err = s.inner.End(ctx)
+		answer, err = s.endFitting(ctx)
 	}
 	if err != nil {
 		s.giveUp()
@@ -198,6 +230,15 @@ func (s *stream) end(ctx context.Context) (answer frames.Answer, err error) {
 	}
 	s.close()
 	return answer, nil
+}
+
+// endFitting ends the stream, unless the tenant may not have what it would have then.
+func (s *stream) endFitting(ctx context.Context) (frames.Answer, error) {
+	if s.fits() {
+		return s.inner.End(ctx)
+	}
+	answer, err := s.inner.EndMeasured(ctx)
+	return answer, atQuota(err)
 }
 
 func (s *stream) close() {

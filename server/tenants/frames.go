@@ -14,8 +14,9 @@ import (
 // FrameStream is a stream of a client that speaks frames: its steps are answered as `gitpool host` answers them, and an End lasts from
 // its answer on. It belongs to one goroutine.
 type FrameStream struct {
-	inner *store.Stream
-	leave func()
+	tenant Tenant
+	inner  *store.Stream
+	leave  func()
 }
 
 // OpenFrames opens a stream as an Open does. It waits for a push of the tenant as long as the context lasts, and is then refused
@@ -25,7 +26,7 @@ func (t Tenant) OpenFrames(ctx context.Context) (*FrameStream, error) {
 	if err != nil {
 		return nil, Fault{31}
 	}
-	if _, err := t.Room(); err != nil {
+	if _, err := t.RoomCounted(ctx); err != nil {
 		unlock()
 		return nil, Fault{25}
 	}
@@ -40,7 +41,7 @@ func (t Tenant) OpenFrames(ctx context.Context) (*FrameStream, error) {
 		unlock()
 		return nil, fromStore(err)
 	}
-	return &FrameStream{inner, func() { share.Leave(true); unlock() }}, nil
+	return &FrameStream{t, inner, func() { share.Leave(true); unlock() }}, nil
 }
 
 // OpenOnce opens a stream as OpenFrames does, unless one with this token has ended well before. Then it gives what that one was answered, and
@@ -84,18 +85,36 @@ func (s *FrameStream) Feed(ctx context.Context, body []byte) (func(context.Conte
 // Cost gives what the child took for the stream so far.
 func (s *FrameStream) Cost() child.Cost { return s.inner.Cost() }
 
-// Spare is how much memory the child has, about, beside what tenants have.
-func (s *FrameStream) Spare() int64 { return s.inner.Spare() }
+// Had is how many bytes the tenant has at most, without what the stream has brought since the tenant was last measured.
+func (s *FrameStream) Had() int64 { return s.tenant.pool.store.AtMost(s.tenant.name) }
 
-// Recount lets the tenant's Room be what the quota leaves at the last checkpoint. The stream may be open or not.
-func (s *FrameStream) Recount(ctx context.Context) error { return s.inner.Recount(ctx) }
+// Fits tells whether the tenant may have so many bytes more than it Had. That is the most that the stream has brought since.
+func (s *FrameStream) Fits(more int64) bool {
+	s.inner.Bounded(more)
+	return s.tenant.Allows(s.Had()+more) == nil
+}
+
+// FeedMeasured feeds a piece that ends with a checkpoint, and waits for the answer. It is ErrFull where the tenant may not have what it would have
+// then: that is dropped.
+func (s *FrameStream) FeedMeasured(ctx context.Context, body []byte) (frames.Answer, error) {
+	return s.inner.FeedWithin(ctx, body, s.tenant.Allows)
+}
+
+// EndMeasured ends the stream as End does. It is ErrFull where the tenant may not have what it would have then: that is dropped.
+func (s *FrameStream) EndMeasured(ctx context.Context) (frames.Answer, error) {
+	return s.ended(s.inner.CommitWithin(ctx, s.tenant.Allows))
+}
 
 // End ends the stream, and gives the answer once it is in the journal and synced. On an error the stream is open still.
 func (s *FrameStream) End(ctx context.Context) (frames.Answer, error) {
-	reply, err := s.inner.Commit(ctx, nil)
-	var refused *store.Refused
+	return s.ended(s.inner.Commit(ctx, nil))
+}
+
+func (s *FrameStream) ended(reply []byte, err error) (frames.Answer, error) {
+	// One that stands inside of another error has not closed the stream.
+	refused, isRefused := err.(*store.Refused)
 	switch {
-	case errors.As(err, &refused):
+	case isRefused:
 		s.leave()
 		return frames.Answer{Status: frames.Fault, Value: uint64(refused.Number)}, nil
 	case err == nil:

@@ -24,6 +24,8 @@ type Keeper interface {
 	Begin(ctx context.Context, tenant string, form store.Form) (*store.Stream, error)
 	Kept(tenant, token string) (answers.Answer, bool)
 	Bytes(tenant string) int64
+	AtMost(tenant string) int64
+	Recount(ctx context.Context, tenant string) error
 	Usages() []store.Usage
 }
 
@@ -149,9 +151,9 @@ func (t Tenant) Refs(ctx context.Context) (refs []Ref, head string, err error) {
 }
 
 // Log gives the commits of a range of gitrevisions(7), such as `main` or `A..B`, from new to old by the committer's time; so a parent
-// may come before its child.
+// may come before its child. It is Fault 25 where their messages have first lines of more than longestLog bytes in all.
 func (t Tenant) Log(ctx context.Context, revisions string) ([]Name, error) {
-	answers, err := t.begin(ctx, child.Bulk, []string{"log " + revisions})()
+	answers, err := t.begin(child.Longest(ctx, longestLog), child.Bulk, []string{"log " + revisions})()
 	if err != nil {
 		return nil, err
 	}
@@ -170,6 +172,9 @@ func (t Tenant) Log(ctx context.Context, revisions string) ([]Name, error) {
 	}
 	return names, nil
 }
+
+// longestLog is the longest answer to a `log` that is taken, that of some 100,000 commits.
+const longestLog = 8 << 20
 
 // digits is how many digits the name of an object has.
 const digits = 40

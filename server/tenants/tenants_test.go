@@ -6,6 +6,7 @@ import (
 	"errors"
 	"fmt"
 	"os"
+	"runtime"
 	"strings"
 	"sync"
 	"testing"
@@ -271,5 +272,32 @@ func TestNames(t *testing.T) {
 	}
 	if IsSentence(errAnswer) || IsSentence(errors.New("x")) {
 		t.Error("an error of the server's own is a sentence")
+	}
+}
+
+// TestALongLogIsPassedOver has commits whose messages have first lines of a megabyte: no log of them all is held.
+func TestALongLogIsPassedOver(t *testing.T) {
+	const count, long = 40, 1 << 20
+	it := tenant(t, pool(t, 0), "a")
+	must := func(err error) {
+		if t.Helper(); err != nil {
+			t.Fatal(err)
+		}
+	}
+	must(it.Push(background, agree, func(s *Stream) error {
+		for at := 0; at < count; at++ {
+			fmt.Fprintf(s, "commit refs/heads/main\ncommitter a <a@b> 1 +0000\ndata %d\n%s\n", long, strings.Repeat("m", long))
+		}
+		return nil
+	}))
+	var before, after runtime.MemStats
+	runtime.ReadMemStats(&before)
+	names, err := it.Log(background, "main~4..main")
+	if err != nil || len(names) != 4 {
+		t.Fatal(len(names), err)
+	}
+	_, err = it.Log(background, "main")
+	if runtime.ReadMemStats(&after); after.TotalAlloc-before.TotalAlloc > count*long/2 || err == nil {
+		t.Fatalf("%d bytes are taken: %v", after.TotalAlloc-before.TotalAlloc, err)
 	}
 }

@@ -1,6 +1,7 @@
 package tenants
 
 import (
+	"context"
 	"errors"
 )
 
@@ -34,6 +35,31 @@ func (t Tenant) Room() (int64, error) {
 		return 0, ErrFull
 	}
 	return room, nil
+}
+
+// RoomCounted gives Room, and asks the child what the tenant has where that leaves none.
+func (t Tenant) RoomCounted(ctx context.Context) (int64, error) {
+	room, err := t.Room()
+	if errors.Is(err, ErrFull) && t.pool.store.Recount(ctx, t.name) == nil {
+		room, err = t.Room()
+	}
+	return room, err
+}
+
+// Allows is ErrFull where the tenant may not have so many bytes, by its quota and by the limits of who made it.
+func (t Tenant) Allows(bytes int64) error {
+	if most := t.pool.usage.quota(t.name); most > 0 && bytes > most {
+		return ErrFull
+	}
+	more := bytes - t.pool.store.Bytes(t.name)
+	if more <= 0 {
+		return nil
+	}
+	room, err := t.userRoom()
+	if err == nil && more > room {
+		err = ErrUserFull
+	}
+	return err
 }
 
 // Names gives the names of all tenants that have, or were fed, something, in order. Who may see which is for the caller to ask.

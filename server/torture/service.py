@@ -50,11 +50,11 @@ class Service:
         self.init()
         for name, value in LIMITS.items():
             self.command("limits", name, value)
-        self.command("grant", USER, "*", "rw")
         done = subprocess.run([self.server, "user", self.leader.folder, USER], input=PASSWORD.encode() + b"\n", check=True)
         assert done.returncode == 0
         subprocess.run(["ssh-keygen", "-q", "-t", "ed25519", "-N", "", "-f", os.path.join(self.room, "key")], check=True)
         self.command("user", USER, "--key", os.path.join(self.room, "key.pub"))
+        self.command("grant", USER, "*", "rw")
 
     def init(self) -> None:
         """Begins the logs that there are not."""

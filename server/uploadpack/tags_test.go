@@ -178,8 +178,12 @@ func TestWhatIsRememberedIsBounded(t *testing.T) {
 	for at := uint32(0); at < 2*mostRemembered/1000; at++ {
 		remembered.put(fmt.Sprintf("tenant%d", at), ofNames(1000, chain))
 	}
-	if kept := remembered.names; kept > mostRemembered || kept < mostRemembered-1000 || kept != 1000*len(remembered.tenants) {
-		t.Errorf("%d names are remembered, of %d tenants", kept, len(remembered.tenants))
+	names := 0
+	for _, ends := range remembered.tenants {
+		names += len(ends.chains)
+	}
+	if kept := remembered.names; kept > mostRemembered || kept < mostRemembered-refs || kept != names {
+		t.Errorf("%d names are remembered, and %d counted", names, kept)
 	}
 	remembered.put("large", ofNames(mostRemembered+1, chain))
 	if remembered.tenants["large"] != nil || remembered.names == 0 {

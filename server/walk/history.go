@@ -6,6 +6,7 @@ package walk
 
 import (
 	"context"
+	"errors"
 	"fmt"
 
 	"gitpoold/objects"
@@ -43,6 +44,7 @@ type History struct {
 	cuts    map[tenants.Name]bool
 	common  []tenants.Name
 	rounds  int
+	part    int   // of parts, how many were too long
 	tried   int   // commits that walks for ReachesAny came to
 	paid    int64 // bytes that are counted already, for commits that come
 }
@@ -111,17 +113,33 @@ func (h *History) unread(names []tenants.Name) (unread []tenants.Name) {
 	return unread
 }
 
-// loadRest reads all commits that one reaches and the client has not, as far as one of its commits tells.
+// parts are how many commits back a part of a history goes that is asked for at once, where one reply for all of it would be too long. The 0 is all.
+var parts = []int{0, 32768, 2048, 128}
+
+// loadRest reads all commits that one reaches and the client has not, as far as one of its commits tells; or the newest of them, where all are too many.
+// Where the messages of a few have long first lines, it reads none.
 func (h *History) loadRest(ctx context.Context, from tenants.Name) error {
-	revisions := from.String()
-	if len(h.common) > 0 {
-		revisions = h.common[0].String() + ".." + revisions
+	for ; h.part < len(parts); h.part++ {
+		names, err := h.source.Log(ctx, h.revisions(from, parts[h.part]))
+		switch {
+		case err == nil:
+			return h.read(ctx, h.unread(names))
+		case err != (tenants.Fault{Number: 25}) && !(parts[h.part] > 0 && errors.Is(err, tenants.ErrMissing)):
+			return err
+		}
 	}
-	names, err := h.source.Log(ctx, revisions)
-	if err != nil {
-		return err
+	return nil
+}
+
+// revisions is the range of what is asked for at once.
+func (h *History) revisions(from tenants.Name, back int) string {
+	switch {
+	case back > 0:
+		return fmt.Sprintf("%v~%d..%[1]v", from, back)
+	case len(h.common) > 0:
+		return h.common[0].String() + ".." + from.String()
 	}
-	return h.read(ctx, h.unread(names))
+	return from.String()
 }
 
 func (h *History) read(ctx context.Context, names []tenants.Name) error {

@@ -1,0 +1,63 @@
+package access
+
+import (
+	"path/filepath"
+	"sort"
+	"strings"
+
+	"gitpoold/lists"
+)
+
+// Users gives what each user has, a line each, the lines of a user together: `USER password`, `USER key TYPE FINGERPRINT`, `USER grant PATTERN
+// RIGHT`, `USER in @GROUP`, `USER token TOKEN RIGHT PATTERN until TIME` and `USER blocked WHY`. A group may stand in the place of a user.
+func Users(folder string) (all []string, err error) {
+	for _, file := range []struct {
+		name string
+		line func(words []string) string
+	}{{"passwords", passwordOf}, {"keys", keyOf}, {"access", grantOf}, {"groups", memberOf}, {"tokens", tokenOf}, {"blocked", blockOf}} {
+		lines, err := lists.Read(filepath.Join(folder, file.name))
+		if err != nil {
+			return nil, err
+		}
+		for _, words := range lines {
+			if line := file.line(words); line != "" {
+				all = append(all, line)
+			}
+		}
+	}
+	sort.SliceStable(all, func(i, k int) bool { return strings.Fields(all[i])[0] < strings.Fields(all[k])[0] })
+	return all, nil
+}
+
+func passwordOf(words []string) string { return words[0] + " password" }
+
+func keyOf(words []string) string {
+	if len(words) < 3 {
+		return ""
+	}
+	return words[0] + " key " + words[1] + " " + fingerprint(strings.Join(words[1:], " "))
+}
+
+func grantOf(words []string) string { return words[0] + " grant " + strings.Join(words[1:], " ") }
+
+func memberOf(words []string) string {
+	if len(words) != 2 {
+		return ""
+	}
+	return words[1] + " in " + words[0]
+}
+
+func tokenOf(words []string) string {
+	if len(words) != 5 {
+		return ""
+	}
+	return strings.Join([]string{Person(words[0]), "token", words[0], words[3], words[4], "until", words[2]}, " ")
+}
+
+// blockOf is "" for the block of a tenant.
+func blockOf(words []string) string {
+	if len(words) < 2 || words[0] != User {
+		return ""
+	}
+	return strings.TrimSpace(words[1] + " blocked " + strings.Join(words[2:], " "))
+}
