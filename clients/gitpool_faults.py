@@ -1,6 +1,7 @@
 """What the numbers of gitpool's refusals mean, their usual cause, and the next step, in the words of docs/FAULTS.md."""
 from __future__ import annotations
 
+import re
 from typing import Dict, NamedTuple
 
 
@@ -21,8 +22,8 @@ EXPLANATIONS: Dict[int, Explanation] = {
     ),
     2: Explanation(
         "unknown command",
-        "notes, the signature of a tag or another extension; or a wrong count of the `data` before it",
-        "export without notes and with `--signed-tags=strip`; check the `data` before it",
+        "notes (`N`), a `property` or another extension; or a wrong count of the `data` before it",
+        "import it with `gitpool-import --filter notes,properties`; check the `data` before it",
     ),
     3: Explanation(
         "a line is malformed, or a commit-ish is no expression",
@@ -37,7 +38,7 @@ EXPLANATIONS: Dict[int, Explanation] = {
     5: Explanation(
         "a part of a command is missing or misplaced",
         "the exporter died between two lines, or writes another order or signatures of commits (`gpgsig`)",
-        "export again with `--use-done-feature` and without signatures; compare the order with git-fast-import(1)",
+        "export again with `--use-done-feature`; import signed commits with `gitpool-import --filter signatures`; compare the order with git-fast-import(1)",
     ),
     6: Explanation(
         "the stream is cut off in a line or a `data`",
@@ -52,7 +53,7 @@ EXPLANATIONS: Dict[int, Explanation] = {
     8: Explanation(
         "a feature or option that is not supported",
         "the stream was written for another importer",
-        "import it with `gitpool-import`, which knows dates and marks files; else leave the line out, if the rest does not need it",
+        "import it with `gitpool-import --filter dates,features,properties`; else leave the line out, if the rest does not need it",
     ),
     9: Explanation(
         "a feature or option that comes too late",
@@ -245,7 +246,23 @@ def explain(number: int) -> Explanation:
     return EXPLANATIONS.get(number, _UNKNOWN)
 
 
-def sentences(number: int) -> str:
-    """The number of a refusal as three short lines: its meaning, the usual cause, the next step."""
+# The filter of gitpool-import that takes such a line away or changes it, by the number of the fault and the line that is refused.
+_FILTERS = (
+    (2, re.compile(rb"property "), "properties", "a property of a commit"),
+    (2, re.compile(rb"N "), "notes", "a note"),
+    (5, re.compile(rb"gpgsig "), "signatures", "the signature of a commit"),
+    (8, re.compile(rb"feature date-format="), "dates", "dates of another format"),
+    (8, re.compile(rb"feature (commit-properties|empty-directories|multiple-authors)\b"), "properties", "properties of commits"),
+    (8, re.compile(rb"feature (import-marks|import-marks-if-exists|export-marks|relative-marks|no-relative-marks)\b"), "features", "marks files"),
+    (8, re.compile(rb"option git "), "features", "an option that tunes git"),
+)
+
+
+def sentences(number: int, line: bytes = b"") -> str:
+    """The number of a refusal as three short lines: its meaning, the usual cause, the next step. Where the line that is refused is known, a
+    filter of gitpool-import may be the next step."""
     told = explain(number)
+    for fault, pattern, name, what in _FILTERS:
+        if fault == number and pattern.match(line):
+            told = told._replace(cause=f"the stream has {what}", next_step=f"give --filter {name}, or export without it")
     return f"fault {number}: {told.meaning}\n  usual cause: {told.cause}\n  next step: {told.next_step}"

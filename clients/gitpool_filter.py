@@ -5,7 +5,7 @@ Each stage counts what it changes under a word of its own.
 from __future__ import annotations
 
 import re
-from typing import Dict, List, Optional
+from typing import Dict, List, Optional, Set
 
 from gitpool_dates import FORMATS, raw_date
 from gitpool_notes import NoteStage
@@ -106,24 +106,84 @@ class PropertyStage(Stage):
         return b""
 
 
-class SignatureStage(Stage):
-    """Takes signatures away from the messages of tags and from commits, or refuses a stream that has one."""
+class Renamed:
+    """Which commits and tags of a stream get other names, since they or what they build on were signed, by marks and by refs."""
 
-    def __init__(self, work: Work, *, refuses: bool):
+    def __init__(self) -> None:
+        self._marks: Set[bytes] = set()
+        self._refs: Set[bytes] = set()
+
+    def has(self, name: bytes) -> bool:
+        """Whether a `from` or `merge` names one."""
+        return name in self._marks if name.startswith(b":") else (name[:-2] if name.endswith(b"^0") else name) in self._refs
+
+    def define(self, mark: bytes, ref: bytes, is_renamed: bool) -> None:
+        """A mark, unless it is empty, and a ref have this object from now on."""
+        for name, known in ((mark, self._marks), (ref, self._refs)):
+            if is_renamed and name:
+                known.add(name)
+            else:
+                known.discard(name)
+
+
+class SignatureStage(Stage):
+    """Takes signatures away from commits, and from tags that reach such a commit, whose signatures would be good no more; or from all tags;
+    or refuses a stream that has one."""
+
+    def __init__(self, work: Work, *, mode: str):
         self._work = work
-        self._refuses = refuses
+        self._mode = mode
+        self._renamed = Renamed()
+        self._mark = b""
+        self._builds_on: List[bytes] = []
+        self._was_signed = False
         self._has_signature = False
         self._parts: List[bytes] = []
         self._size = 0
-        self.handlers = {b"gpgsig": self._gpgsig, b"data": self._data}
+        self.handlers = {b"mark": self._named, b"original-oid": self._original, b"from": self._follows, b"merge": self._follows,
+                         b"gpgsig": self._gpgsig, b"data": self._data}
+
+    def before(self, word: bytes) -> None:
+        command, name = self._work.position.command, self._work.position.argument
+        if command == b"commit" and not self._builds_on:
+            self._builds_on.append(name)
+        if command in (b"commit", b"reset"):
+            self._renamed.define(self._mark, name, self._is_renamed())
+        elif command == b"tag":
+            self._renamed.define(self._mark, b"refs/tags/" + name, self._is_renamed())
+        else:
+            self._renamed.define(self._mark, b"", False)
+        self._mark, self._builds_on, self._was_signed = b"", [], False
 
     def cut(self) -> None:
         self._release()
 
+    def _is_renamed(self) -> bool:
+        return self._was_signed or any(map(self._renamed.has, self._builds_on))
+
+    def _named(self, line: bytes) -> bytes:
+        self._mark = line.rstrip(b"\n")[len(b"mark ") :]
+        return line
+
+    def _follows(self, line: bytes) -> bytes:
+        self._builds_on.append(line.rstrip(b"\n").partition(b" ")[2])
+        return line
+
+    def _original(self, line: bytes) -> bytes:
+        if line.rstrip(b"\n").partition(b" ")[2] in self._work.signed:
+            self._sign("a commit is signed")
+        return line
+
     def _gpgsig(self, line: bytes) -> bytes:
-        self._count("a commit is signed")
+        self._sign("a commit is signed")
         self._has_signature = True
         return b""
+
+    def _sign(self, reason: str) -> None:
+        """Counts the signature of the open command, once."""
+        if not self._was_signed:
+            self._count(reason)
+        self._was_signed = True
 
     def _data(self, line: bytes) -> bytes:
         if not begins_data(line):
@@ -132,7 +192,7 @@ class SignatureStage(Stage):
             self._has_signature = False
             self._work.rewriter.drop_data()
             return b""
-        if self._work.position.command != b"tag":
+        if self._work.position.command != b"tag" or not (self._mode or self._is_renamed()):
             return line
         self._parts = [line]
         self._work.rewriter.sink_data(self._collect)
@@ -154,7 +214,7 @@ class SignatureStage(Stage):
             message = message[: len(message) - len(line) + len(b"data <<")]
         found = _SIGNATURE.search(message)
         if found:
-            self._count("a tag is signed")
+            self._sign("a tag is signed")
             self._parts = [b"data %d\n" % found.start(), message[: found.start()]]
         self._release()
 
@@ -163,7 +223,7 @@ class SignatureStage(Stage):
         self._parts, self._size = [], 0
 
     def _count(self, reason: str) -> None:
-        if self._refuses:
+        if self._mode == "refuse":
             raise CannotRewrite(reason + ", and signatures are refused")
         self._work.changed["signatures"] += 1
 
@@ -183,13 +243,18 @@ def add_filters(plan: Plan, words: str) -> None:
     if "dates" in chosen:
         plan.makers.append(lambda work: DateStage(work, chosen["dates"] or None))
     if "signatures" in chosen:
-        plan.makers.append(lambda work: SignatureStage(work, refuses=chosen["signatures"] == "refuse"))
+        plan.makers.append(lambda work: SignatureStage(work, mode=chosen["signatures"]))
     if "notes" in chosen:
         plan.makers.append(NoteStage)
 
 
 _ALLOWED: Dict[str, "tuple[str, ...]"] = {
     "dates": ("", *FORMATS), "features": ("",), "properties": ("",), "signatures": ("", "strip", "refuse"), "notes": ("",)}
+
+
+def mode_of_signatures(words: Optional[str]) -> Optional[str]:
+    """What a list of filters says of signatures: `strip`, `refuse` or an empty text; None where it does not name them."""
+    return None if words is None else _chosen(words).get("signatures")
 
 
 def _chosen(words: str) -> Dict[str, str]:
@@ -206,4 +271,4 @@ def _chosen(words: str) -> Dict[str, str]:
     return chosen
 
 
-__all__ = ["FilterError", "add_filters"]
+__all__ = ["FilterError", "add_filters", "mode_of_signatures"]

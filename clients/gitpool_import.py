@@ -181,11 +181,15 @@ class Run:
         return Refused(reason, place_of(source.again(), byte), self.is_at_end, self.fed, self.tally, has_saved)
 
 
+class NoBranch(Exception):
+    """HEAD is to name a branch that the tenant does not have after the stream."""
+
+
 class Request(NamedTuple):
     """What is asked of an import. start gives a service that may save (True) or may not (False); told takes what the stream prints,
     shown the bytes and objects so far. keeps_part saves what was done even where something was refused or kept. prepare is given the
     service, and says how the stream is rewritten, if it is. before_save is called before a stream that was not refused is saved; what
-    it raises gives the stream up."""
+    it raises gives the stream up. head is the branch that HEAD has to name."""
 
     start: Start
     tenant: bytes
@@ -194,12 +198,13 @@ class Request(NamedTuple):
     keeps_part: bool = False
     prepare: Callable[[Service], Optional[Plan]] = lambda _: None
     before_save: Callable[[], None] = lambda: None
+    head: Optional[bytes] = None
 
 
 def import_stream(source: Source, request: Request) -> Imported:
     """Imports a stream, and saves. After a fault, or where a ref was kept, nothing is saved unless the request keeps a part, or a server
     keeps the pool file: there what a checkpoint or the end saved lasts. Raises Refused, Fault where the tenant's name is bad, OutOfMemory,
-    ServiceError, and what the calls of the request raise. Where a stream over ssh was refused that has a checkpoint, it raises the Fault,
+    ServiceError, NoBranch, and what the calls of the request raise. Where a stream over ssh was refused that has a checkpoint, it raises the Fault,
     for the place of it is not found."""
     with request.start(True) as service:
         keeps_part = request.keeps_part or service.is_served
@@ -218,7 +223,7 @@ def import_stream(source: Source, request: Request) -> Imported:
                 refused.head = _give_up(service, request.tenant, keeps_part)
             raise refused from None
         is_taken = keeps_part or not run.kept
-        head = set_head(service, request.tenant) if is_taken else None
+        head = set_head(service, request.tenant, request.head) if is_taken else None
         if is_taken:
             request.before_save()
         else:
@@ -237,12 +242,14 @@ def _give_up(service: Service, tenant: bytes, keeps_part: bool) -> Optional[byte
     return head
 
 
-def set_head(service: Service, tenant: bytes) -> Optional[bytes]:
-    """Lets HEAD name a branch where it names none: master, or else the first one."""
+def set_head(service: Service, tenant: bytes, wanted: Optional[bytes] = None) -> Optional[bytes]:
+    """Lets HEAD name the branch that is wanted; without one, where HEAD names no branch, master, or else the first one. Raises NoBranch."""
     head, branches = service.head(tenant), [ref.name for ref in service.refs(tenant) if ref.name.startswith(b"refs/heads/")]
-    if head in branches or not branches:
+    if wanted is not None and wanted not in branches:
+        raise NoBranch(f"there is no branch {os.fsdecode(wanted)!r} for HEAD after this stream; nothing is saved")
+    if head == wanted or (wanted is None and (head in branches or not branches)):
         return None
-    chosen = b"refs/heads/master" if b"refs/heads/master" in branches else branches[0]
+    chosen = wanted or (b"refs/heads/master" if b"refs/heads/master" in branches else branches[0])
     service.import_stream(tenant, [b"option gitpool head " + chosen + b"\n"])
     return chosen
 
@@ -272,4 +279,4 @@ def _is_refused(feeder: Union[_Plain, _Planned], piece: bytes) -> bool:
     return False
 
 
-__all__ = ["Imported", "Refused", "Lend", "Reason", "Request", "Run", "Source", "Start", "find_fault", "import_stream", "set_head"]
+__all__ = ["Imported", "Refused", "Lend", "NoBranch", "Reason", "Request", "Run", "Source", "Start", "find_fault", "import_stream", "set_head"]

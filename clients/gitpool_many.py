@@ -12,18 +12,17 @@ import signal
 import subprocess
 import tempfile
 import time
-from typing import IO, BinaryIO, Callable, ContextManager, Dict, Iterator, List, NamedTuple, Optional
+from typing import IO, BinaryIO, Callable, ContextManager, Dict, Iterator, List, NamedTuple, Optional, Sequence
 
 from gitpool import Fault, OutOfMemory, Service
 from gitpool_faults import sentences
-from gitpool_git import of_no_repository
 from gitpool_import import Imported, Lend, Reason, Run, Source, Start, set_head
+from gitpool_original import Comparison, Original, Renamed
 from gitpool_rewrite import CannotRewrite, Plan
 from gitpool_terminal import shown, size_of
 from gitpool_verdict import Verdict, words_of_kept, words_of_refused
 
-EXPORT = ("fast-export", "--all", "--use-done-feature", "--mark-tags", "--reencode=no", "--signed-tags=strip")
-
+EXPORT = ("fast-export", "--all", "--use-done-feature", "--mark-tags", "--reencode=no", "--signed-tags=verbatim")
 
 
 class Entry(NamedTuple):
@@ -65,6 +64,7 @@ class Outcome:
         self.verdict = Verdict()
         self.failure = ""
         self.is_undone = True
+        self.renamed: Optional[Renamed] = None
 
     def failed(self, words: str, is_undone: bool) -> None:
         """The entry failed."""
@@ -76,13 +76,15 @@ Shown = Callable[[Entry, int, int, Optional[int]], None]
 
 
 class Many:
-    """The import of a list. plan makes what each stream is rewritten by, if it is; shown takes the bytes and objects so far of an
-    entry, and the size of its stream if that is known."""
+    """The import of a list. plan makes what each stream is rewritten by, if it is, of the repository that it is exported from, if there is
+    one; shown takes the bytes and objects so far of an entry, and the size of its stream if that is known. A repository whose refs would get
+    other names than in git is imported only if that is asked for."""
 
-    def __init__(self, start: Start, plan: Callable[[], Optional[Plan]], shows: Shown):
+    def __init__(self, start: Start, plan: Callable[[Optional[Original]], Optional[Plan]], shows: Shown, *, rewrites: bool):
         self._start = start
         self._plan = plan
         self._shows = shows
+        self._rewrites = rewrites
 
     def run(self, entries: List[Entry], *, saves: bool) -> List[Outcome]:
         """Imports all entries, and saves those that went well; where a server keeps the pool file, also what the checkpoints of the others
@@ -105,9 +107,14 @@ class Many:
         """Imports one entry into a service, which goes on in any case."""
         outcome, began = Outcome(entry), time.monotonic()
         try:
-            with open_stream(entry.path) as source:
+            original = Original.at(entry.path)
+            plan = self._plan(original)
+            compared = Comparison(original) if original else None
+            with open_stream(entry.path, original, shows_names=bool(plan and plan.signed)) as source:
                 service.open(entry.tenant)
-                self._import_stream(service, source, outcome)
+                self._import_stream(service, source, outcome, plan)
+            if compared and not outcome.failure:
+                self._compare(compared.renamed(service, entry.tenant), outcome)
         except Fault as fault:
             self._drop(service, outcome, sentences(fault.number), True)
         except ExportFailed as error:
@@ -117,8 +124,18 @@ class Many:
         outcome.verdict.members["seconds"] = round(time.monotonic() - began, 3)
         return outcome
 
-    def _import_stream(self, service: Service, source: Source, outcome: Outcome) -> None:
-        entry, plan = outcome.entry, self._plan()
+    def _compare(self, renamed: Renamed, outcome: Outcome) -> None:
+        """Fails an entry whose refs have other names than in git, unless that is asked for."""
+        outcome.renamed = renamed
+        outcome.verdict.renamed(renamed.refs)
+        if not renamed.refs or self._rewrites:
+            return
+        outcome.verdict.members["saved"] = False
+        outcome.verdict.failed(renamed.words())
+        outcome.failed(renamed.words() + "; --rewrite imports it with these", False)
+
+    def _import_stream(self, service: Service, source: Source, outcome: Outcome, plan: Optional[Plan]) -> None:
+        entry = outcome.entry
         run = Run(service, entry.tenant, lambda _: None, lambda fed, objects: self._shows(entry, fed, objects, source.size), plan)
         try:
             run.feed_all(source)
@@ -168,11 +185,11 @@ class Many:
 
 
 @contextlib.contextmanager
-def open_stream(path: bytes) -> Iterator[Source]:
-    """The stream at a path, or the export of the repository there. Raises OSError, and ExportFailed where the export does not end
-    well, which may be found only after its last byte."""
-    if os.path.isdir(path):
-        with _exported(path) as source:
+def open_stream(path: bytes, original: Optional[Original] = None, *, shows_names: bool = False) -> Iterator[Source]:
+    """The stream at a path, or the export of the repository there, with the names that its objects have if they are wanted. Raises OSError,
+    and ExportFailed where the export does not end well, which may be found only after its last byte."""
+    if original:
+        with _exported(original, (*EXPORT, "--show-original-ids") if shows_names else EXPORT) as source:
             yield source
         return
     with open(path, "rb") as file:
@@ -182,15 +199,11 @@ def open_stream(path: bytes) -> Iterator[Source]:
 
 
 @contextlib.contextmanager
-def _exported(path: bytes) -> Iterator[Source]:
-    above = os.path.dirname(os.path.realpath(path))
-    environment = {**of_no_repository(), "GIT_CEILING_DIRECTORIES": os.fsdecode(above), "GIT_NO_REPLACE_OBJECTS": "1"}
-    git = (b"git", b"-C", path)
-    head = subprocess.run([*git, b"symbolic-ref", b"-q", b"HEAD"], env=environment, stdout=subprocess.PIPE,
-                          stderr=subprocess.DEVNULL).stdout
+def _exported(original: Original, export: Sequence[str]) -> Iterator[Source]:
+    head = original.run(b"symbolic-ref", b"-q", b"HEAD")
     with tempfile.TemporaryFile() as said:
-        words = [*git, *(word.encode() for word in EXPORT)]
-        process = subprocess.Popen(words, env=environment, stdin=subprocess.DEVNULL, stdout=subprocess.PIPE, stderr=said)
+        words = [*original.words, *(word.encode() for word in export)]
+        process = subprocess.Popen(words, env=original.environment, stdin=subprocess.DEVNULL, stdout=subprocess.PIPE, stderr=said)
         assert process.stdout
         try:
             source = Source(process.stdout, b"option gitpool head " + head if head else b"")  # type: ignore[arg-type]
@@ -230,6 +243,8 @@ def _row_of(outcome: Outcome) -> str:
     objects = members["blobs"] + members["commits"] + members["tags"]
     changed = ", ".join(f"{count} {kind}" for kind, count in members["changed"].items())
     more = f"; changed {changed}" if changed else ""
+    if outcome.renamed and outcome.renamed.refs:
+        more += "; " + outcome.renamed.words()
     return f"imported  {objects} objects, {size_of(members['bytes'])}, {members['seconds']:.2f} s{more}"
 
 

@@ -8,7 +8,7 @@ from __future__ import annotations
 
 import re
 from collections import Counter
-from typing import Callable, Dict, List, Optional, Sequence, Set
+from typing import Callable, Dict, FrozenSet, List, Optional, Sequence, Set
 
 from gitpool import PIECE, Service, Text
 from gitpool_stream import Scanner
@@ -222,6 +222,8 @@ class Plan:
         self.makers: List[Callable[["Work"], Stage]] = []
         self.has_properties = False
         self.imported: Dict[int, bytes] = {}
+        # The commits that git exports without their signatures, by their `original-oid`.
+        self.signed: FrozenSet[bytes] = frozenset()
 
     def finished(self) -> Optional["Plan"]:
         """The plan, unless it changes nothing."""
@@ -231,15 +233,17 @@ class Plan:
         """A rewriter for one run of the stream. In a rerun, which looks for the place of a fault, nothing is counted or kept."""
         wire = Wire(service, tenant, told)
         work = Work(service, tenant, wire, Counter() if is_rerun else self.changed, self.imported, is_rerun)
+        work.signed = self.signed
         work.rewriter = Rewriter(wire, work.position, [make(work) for make in self.makers], has_properties=self.has_properties)
         return work.rewriter
 
 
 class Work:
-    """What stages share in one run: the service and the wire, the position, the counts of what was changed, and the commits of
-    marks that were imported."""
+    """What stages share in one run: the service and the wire, the position, the counts of what was changed, the commits of marks that
+    were imported, and the commits that were signed."""
 
     rewriter: Rewriter
+    signed: FrozenSet[bytes] = frozenset()
 
     def __init__(self, service: Service, tenant: Text, wire: Wire, changed: "Counter[str]", imported: Dict[int, bytes], is_rerun: bool):
         self.service = service

@@ -16,6 +16,7 @@ The JSON of one stream is an object of these members, in version 1. Later versio
     bytes        how many bytes the stream has; after a fault, how many were fed in whole pieces before it
     blobs, commits, tags    how many of them begin in these and, after a fault, in the piece that it is in
     changed      how many changes of each kind the filters made
+    renamed      the refs of a repository that have other names than in git
     seconds      how long it took
 
 Text is shown as on a terminal: bytes that are no UTF-8 or not printable as `\\xff`. No ref has a backslash.
@@ -42,7 +43,7 @@ class Verdict:
         self.members: Dict[str, Any] = {
             "version": VERSION, "accepted": False, "saved": False, **dict.fromkeys(
                 ("fault", "meaning", "byte", "line", "text", "command", "command_line", "at_end", "head")),
-            "kept": [], "bytes": 0, "blobs": 0, "commits": 0, "tags": 0, "changed": {}, "seconds": 0.0}
+            "kept": [], "renamed": [], "bytes": 0, "blobs": 0, "commits": 0, "tags": 0, "changed": {}, "seconds": 0.0}
 
     def imported(self, done: Imported, *, is_saved: bool) -> None:
         """The stream was not refused."""
@@ -62,6 +63,10 @@ class Verdict:
     def failed(self, reason: str) -> None:
         """Something else than the stream was wrong. What is accepted or saved by then stays so."""
         self.members.update(meaning=reason)
+
+    def renamed(self, refs: List[bytes]) -> None:
+        """These refs have other names than in the repository that was exported."""
+        self.members["renamed"] = [shown(ref, 1024) for ref in refs]
 
     def counted(self, size: int, tally: Tally) -> None:
         """How much of the stream was taken."""
@@ -83,7 +88,7 @@ def words_of_refused(refused: Refused) -> str:
     lines = [f"refused {where} byte {place.byte}, line {place.line}: {shown(place.text)}"]
     if place.command_line != place.line:
         lines.append(f"  in the command of line {place.command_line}: {shown(place.command)}")
-    lines.append(sentences(refused.reason.number) if isinstance(refused.reason, Fault) else f"  {refused.reason}")
+    lines.append(sentences(refused.reason.number, place.text) if isinstance(refused.reason, Fault) else f"  {refused.reason}")
     return "\n".join(lines)
 
 

@@ -19,7 +19,7 @@ _gitpool_clients_offer() { mapfile -t COMPREPLY < <(compgen "$@" -- "${word#=}")
 _gitpool_clients_options() {
   case $1 in
     gitpool-import)
-      echo "--pool --all --partial --dry-run --filter --import-marks --import-marks-if-exists --export-marks --map --json"
+      echo "--pool --all --rewrite --head --partial --dry-run --filter --import-marks --import-marks-if-exists --export-marks --map --json"
       echo "--progress --no-progress --help --version"
       ;;
     gitpool-export) echo "--pool --into --help --version" ;;

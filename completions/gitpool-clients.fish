@@ -13,6 +13,8 @@ complete -c gitpool-export -l into -xa '(__fish_complete_directories)' -d 'a Git
 
 complete -c gitpool-import -l partial -d 'save what was done, even if something was refused or kept'
 complete -c gitpool-import -l all -rF -d 'import all streams and repositories of a list'
+complete -c gitpool-import -l rewrite -d 'import repositories too whose refs get other names'
+complete -c gitpool-import -l head -x -d 'let HEAD name this branch afterwards'
 complete -c gitpool-import -l dry-run -d 'judge the stream, and save nothing'
 complete -c gitpool-import -l filter -xa 'all dates features notes properties signatures' -d 'change the stream as these say'
 complete -c gitpool-import -l import-marks -rF -d 'let the stream use the marks of this file'

@@ -27,10 +27,13 @@ import (
 	"gitpoold/hooks"
 	"gitpoold/limits"
 	"gitpoold/lists"
+	"gitpoold/mirrors"
 	"gitpoold/operator"
+	"gitpoold/protect"
 	"gitpoold/regular"
 	"gitpoold/shards"
 	"gitpoold/store"
+	"gitpoold/webhooks"
 )
 
 // program finds `gitpool`: as the flag says, as GITPOOL says, beside this program, at the top of the checkout in which this program was
@@ -64,7 +67,11 @@ var listed = []struct{ name, comment string }{
 	{"passwords", "# USER HASH: `gitpoold user` changes them."},
 	{"keys", "# USER TYPE KEY: `gitpoold user` changes them."},
 	{"limits", "# NAME VALUE, quota TENANT VALUE, or daily-bytes USER VALUE: `gitpoold limits` lists and sets them."},
-	{"hooks", "# PATTERN WHERE: a program or an http address that is told of pushes; `gitpoold hooks` changes them."},
+	{"hooks", "# PATTERN WHERE: a program or an http address that is told of pushes, or PATTERN pre-receive|update WHERE: a program that judges " +
+		"them; `gitpoold hooks` changes them."},
+	{protect.FileName, "# PATTERN REFS RULE..: no-delete, no-force, only=USER,@GROUP; `gitpoold protect` changes them."},
+	{"webhooks", webhooks.Comment},
+	{mirrors.ListName, mirrors.Comment},
 	{"owners", "# TENANT USER: the server writes who made each tenant."},
 	{"blocked", "# user NAME WHY, or tenant NAME WHY: `gitpoold block` and `gitpoold unblock` change them."},
 }
@@ -219,7 +226,7 @@ func createHostKey(path string, make func() (crypto.Signer, error)) error {
 // change lets a command change a list. The audit has it before, and a running server has read the list afterwards; else it is an error.
 func change(l line, list string, do func() error, more ...string) error {
 	folder, who := l.folder(), audit.Self()
-	what := strings.Join(append(append([]string{l.name()}, l.words[1:len(l.words)-1]...), more...), " ")
+	what := webhooks.ShownLine(strings.Join(append(append([]string{l.name()}, l.words[1:len(l.words)-1]...), more...), " "))
 	isNoted := false
 	lists.Before = func() (err error) {
 		if !isNoted {
@@ -428,12 +435,12 @@ func runLimits(l line) error {
 func runHooks(l line) error {
 	words := l.words[1 : len(l.words)-1]
 	switch {
-	case len(words) == 3 && words[0] == "add":
-		return change(l, "hooks", func() error { return hooks.Add(l.folder(), words[1], words[2]) })
-	case len(words) == 3 && words[0] == "remove":
-		return change(l, "hooks", func() error { return hooks.Remove(l.folder(), words[1], words[2]) })
+	case len(words) > 2 && words[0] == "add":
+		return change(l, "hooks", func() error { return hooks.Add(l.folder(), words[1:]...) })
+	case len(words) > 2 && words[0] == "remove":
+		return change(l, "hooks", func() error { return hooks.Remove(l.folder(), words[1:]...) })
 	case len(words) > 0:
-		return errors.New("say `add PATTERN WHERE` or `remove PATTERN WHERE`")
+		return errors.New("say `add PATTERN [pre-receive|update] WHERE` or `remove PATTERN [pre-receive|update] WHERE`")
 	}
 	return printLines(hooks.Rows(l.folder()))
 }

@@ -9,6 +9,7 @@ import (
 	"syscall"
 
 	"gitpoold/backups"
+	"gitpoold/builds"
 	"gitpoold/journal"
 	"gitpoold/lists"
 	"gitpoold/poolfile"
@@ -17,8 +18,8 @@ import (
 	"gitpoold/store"
 )
 
-// version is set by the build.
-var version = "0"
+// version and commit are set by the build.
+var version, commit = "0", "unknown"
 
 // Statuses with which a run ends.
 const (
@@ -57,10 +58,14 @@ func (l line) name() string { return l.words[len(l.words)-1] }
 var (
 	logFlags    = []string{"--log", "--log-wait", "--replicas", "--log-unsynced"}
 	followFlags = []string{"--follow", "--leader", "--take-over"}
-	switches    = map[string]bool{"--log-unsynced": true, "--follow": true}
+	switches    = map[string]bool{"--log-unsynced": true, "--follow": true, "--allow-file": true, "--deletions": true}
 )
 
-func commands() []command {
+// commands are those that change a folder or a running server, in the order of `--help`.
+func commands() []command { return append(listCommands(), serverCommands()...) }
+
+// listCommands make a folder, and change who may do what in it.
+func listCommands() []command {
 	return []command{
 		{"init", "DIR [--shards N] [--log ADDRESS ..]", "make a folder for a server, with --shards or several logs for its tenants in several pools, " +
 			"and with --log a log in Redis for the journal of each", 1, 1, append([]string{"--program", "--shards"}, logFlags...), runInit},
@@ -75,11 +80,17 @@ func commands() []command {
 			[]string{"--socket"}, runGrant},
 		{"revoke", "DIR USER [PATTERN]", "take a grant back; without a pattern all grants, the password and the keys", 2, 3,
 			[]string{"--socket"}, runRevoke},
-		{"serve", "DIR [--http ADDRESS] [--ssh ADDRESS] [--socket PATH] [--certificate FILE --certificate-key FILE] " +
-			"[--log ADDRESS .. [--log-wait TIME] [--replicas N] [--log-unsynced] [--follow [--leader URL] [--take-over TIME]]] [--pool-copy PATH]",
+	}
+}
+
+// serverCommands serve, and keep a server well.
+func serverCommands() []command {
+	return []command{
+		{"serve", "DIR [--http ADDRESS] [--ssh ADDRESS] [--socket PATH] [--certificate FILE --certificate-key FILE | " +
+			"--acme NAMES [--acme-email ADDRESS] [--acme-directory URL]] [--redirect ADDRESS] [--log ADDRESS .. [--log-wait TIME] [--replicas N] [--log-unsynced] [--follow [--leader URL] [--take-over TIME]]] [--pool-copy PATH]",
 			"serve until SIGTERM; with --follow as a replica of the server that writes the logs: it answers what only reads, and with --take-over " +
 				"takes the logs over when that server has been silent for so long", 1, 1,
-			append(append([]string{"--http", "--ssh", "--socket", "--program", "--certificate", "--certificate-key", "--pool-copy"}, logFlags...),
+			append(append(append([]string{"--http", "--ssh", "--socket", "--program", "--pool-copy"}, tlsFlags...), logFlags...),
 				followFlags...), runServe},
 		{"status", "DIR", "tell how the running server stands", 1, 1, []string{"--socket"}, runCall},
 		{"save", "DIR", "save the pool file now", 1, 1, []string{"--socket"}, runCall},
@@ -98,9 +109,10 @@ func commands() []command {
 		{"block", "DIR [user|tenant NAME [WHY]]", "refuse everything to a user, or pushes and streams to a tenant, and tell them why; without a name list " +
 			"what is blocked", 1, 4, []string{"--socket"}, runBlock},
 		{"unblock", "DIR user|tenant NAME", "take a block back", 3, 3, []string{"--socket"}, runUnblock},
-		{"hooks", "DIR [add|remove PATTERN WHERE]", "list the hooks, or let a program or an http address be told of pushes", 1, 4,
-			[]string{"--socket"}, runHooks},
-		{"audit", "DIR", "print what operators changed: who, when and from where", 1, 1, nil, runAudit},
+		{"hooks", "DIR [add|remove PATTERN [pre-receive|update] WHERE]", "list the hooks, or let a program or an http address be told of pushes, " +
+			"or let a program judge them before they change anything", 1, 5, []string{"--socket"}, runHooks},
+		protectCommand, webhookCommand, mirrorCommand, pushMirrorCommand,
+		{"audit", "DIR", "print what operators changed, and users of their own accounts: who, when and from where", 1, 1, nil, runAudit},
 	}
 }
 
@@ -114,7 +126,7 @@ func run(words []string) int {
 		return 0
 	}
 	if words[0] == "--version" || words[0] == "-V" {
-		fmt.Printf("gitpoold %s\n", version)
+		fmt.Print(versions())
 		return 0
 	}
 	for _, it := range commands() {
@@ -124,6 +136,24 @@ func run(words []string) int {
 	}
 	fmt.Fprintf(os.Stderr, "gitpoold: there is no command `%s`; `gitpoold --help` lists them\n", words[0])
 	return statusUsage
+}
+
+// versions tells what this server is, and how the program was made that it runs. The server itself is not proved.
+func versions() string {
+	text := fmt.Sprintf("gitpoold %s\ncommit: %s\nproved: no\n", version, commit)
+	found, err := program("")
+	if err != nil {
+		return text + "gitpool: not found\n"
+	}
+	text += "gitpool: " + found + "\n"
+	lines, err := builds.Of(found)
+	if err != nil {
+		return text + fmt.Sprintf("gitpool version: unknown, for %v\n", err)
+	}
+	for _, it := range lines {
+		text += "gitpool " + it + "\n"
+	}
+	return text
 }
 
 func (c command) start(words []string) int {

@@ -21,13 +21,15 @@ import (
 	"gitpoold/hooks"
 	"gitpoold/httpd"
 	"gitpoold/limits"
-	"gitpoold/lists"
 	"gitpoold/logs"
 	"gitpoold/markdown"
 	"gitpoold/metrics"
+	"gitpoold/mirrors"
 	"gitpoold/notify"
 	"gitpoold/operator"
 	"gitpoold/owners"
+	"gitpoold/protect"
+	"gitpoold/quarantine"
 	"gitpoold/regular"
 	"gitpoold/shards"
 	"gitpoold/site"
@@ -42,6 +44,11 @@ type server struct {
 	store *shards.Set
 	site  *site.Site
 	door  *operator.Door
+	// mirrors are the same as those of the site.
+	mirrors *mirrors.Keeper
+	// These are of https.
+	secured   *secured
+	httpsPort int
 }
 
 // runServe serves until SIGTERM or SIGINT: then no connection is taken any more, requests that have begun end, and the pool is saved. A
@@ -128,11 +135,7 @@ func open(l line) (*server, error) {
 	if err != nil {
 		return nil, err
 	}
-	who, err := access.Load(folder, log.Printf)
-	if err != nil {
-		return nil, err
-	}
-	told, err := hooks.Load(folder, func() time.Duration { return bounds.Get().Hook }, log.Printf, m)
+	s, err := readLists(folder, bounds, log, m)
 	if err != nil {
 		return nil, err
 	}
@@ -141,19 +144,51 @@ func open(l line) (*server, error) {
 	if err != nil {
 		return nil, err
 	}
-	made, err := owners.Open(folder, bounds.Owned, pool.Bytes)
+	serving, err := serverOf(l, pool, s)
 	if err != nil {
 		pool.Close(context.Background())
+	}
+	return serving, err
+}
+
+// serverOf gives a site its tenants, which are those of a pool.
+func serverOf(l line, pool *shards.Set, s *site.Site) (*server, error) {
+	made, err := owners.Open(s.Folder, s.Limits.Owned, pool.Bytes)
+	if err != nil {
 		return nil, err
 	}
-	all := tenants.New(pool, bounds.Quota)
+	all := tenants.New(pool, s.Limits.Quota)
 	all.Bound(made)
-	s := &site.Site{Pool: all, Owners: made, Access: who, Limits: bounds, Log: log, Metrics: m, Hooks: told, Version: version, Elsewhere: pool.Follows,
-		Daily:  daily.Open(filepath.Join(folder, "usage"), bounds.Daily, log.Printf),
-		Folder: folder, Work: filepath.Join(folder, "work"), Markdown: markdown.HTML}
+	s.Pool, s.Owners, s.Elsewhere = all, made, pool.Follows
+	s.Daily = daily.Open(filepath.Join(s.Folder, "usage"), s.Limits.Daily, s.Log.Printf)
+	mirrored, err := mirrors.Open(s)
+	if err != nil {
+		return nil, err
+	}
+	s.Mirrors = mirrored
 	door := operator.New(s, pool)
 	door.Measure()
-	return &server{l, pool, s, door}, nil
+	return &server{line: l, store: pool, site: s, door: door, mirrors: mirrored}, nil
+}
+
+// readLists gives a site with what the lists of its folder say, and without its tenants.
+func readLists(folder string, bounds *limits.Limits, log *logs.Log, m *metrics.Metrics) (*site.Site, error) {
+	who, err := access.Load(folder, log.Printf)
+	if err != nil {
+		return nil, err
+	}
+	told, err := hooks.Load(folder, func() time.Duration { return bounds.Get().Hook }, log.Printf, m)
+	if err != nil {
+		return nil, err
+	}
+	kept, err := protect.Load(folder, log.Printf)
+	if err != nil {
+		return nil, err
+	}
+	work := filepath.Join(folder, "work")
+	views, err := quarantine.New(work, func() error { return bounds.MayGrow(work) })
+	return &site.Site{Access: who, Limits: bounds, Log: log, Metrics: m, Hooks: told, Protected: kept, Views: views, Version: version,
+		Folder: folder, Work: work, Markdown: markdown.HTML}, err
 }
 
 // openShards takes the shards up where their journals are, or follows the server that writes these.
@@ -187,7 +222,7 @@ func (s *server) listen() (ways []way, err error) {
 		return nil, err
 	}
 	ways = append(ways, way{"socket", opened, s.door.Serve})
-	for _, open := range []func() (*way, error){s.http, s.ssh} {
+	for _, open := range []func() (*way, error){s.http, s.redirect, s.ssh} {
 		it, err := open()
 		if err != nil {
 			for _, before := range ways {
@@ -207,8 +242,8 @@ func (s *server) http() (*way, error) {
 	if !has {
 		return nil, nil
 	}
-	config, err := s.certificate()
-	if err != nil {
+	var err error
+	if s.secured, err = s.secure(); err != nil {
 		return nil, err
 	}
 	listener, err := net.Listen("tcp", address)
@@ -217,31 +252,13 @@ func (s *server) http() (*way, error) {
 	}
 	name := "http"
 	listener = s.site.Limits.Listen(listener)
-	if config != nil {
-		name, listener = "https", tls.NewListener(listener, config)
+	if s.secured != nil {
+		s.httpsPort = listener.Addr().(*net.TCPAddr).Port
+		name, listener = "https", tls.NewListener(listener, s.secured.config)
 	} else if ip := listener.Addr().(*net.TCPAddr).IP; !ip.IsLoopback() {
 		s.site.Log.Printf("passwords travel unencrypted to %v: give --certificate, or put a front with TLS before it", listener.Addr())
 	}
 	return &way{name, listener, func(ctx context.Context, listener net.Listener) error { return httpd.Serve(ctx, listener, s.site) }}, nil
-}
-
-// certificate reads the certificate's files, again when they have changed.
-func (s *server) certificate() (*tls.Config, error) {
-	file, key := s.line.flags["--certificate"], s.line.flags["--certificate-key"]
-	if file == "" && key == "" {
-		return nil, nil
-	}
-	if file == "" || key == "" {
-		return nil, errors.New("--certificate and --certificate-key go together")
-	}
-	followed, err := lists.Follow(func() (tls.Certificate, error) { return tls.LoadX509KeyPair(file, key) }, s.site.Log.Printf, file, key)
-	if err != nil {
-		return nil, err
-	}
-	return httpd.TLS(func() *tls.Certificate {
-		it := followed.Get()
-		return &it
-	}), nil
 }
 
 func (s *server) ssh() (*way, error) {
@@ -283,10 +300,7 @@ func (s *server) hostKeys() (keys []ssh.Signer, err error) {
 
 // serve serves all ways until the context is done. Where one of them fails, all end.
 func (s *server) serve(ctx context.Context, stop func(), ways []way) error {
-	keeping, stopKeeping := context.WithCancel(context.Background())
-	go s.store.Keep(keeping, s.rhythm)
-	go s.site.Daily.Keep(keeping.Done())
-	defer stopKeeping()
+	defer s.keep()()
 	failed := make(chan error, len(ways))
 	var all sync.WaitGroup
 	status := "serving"
@@ -309,6 +323,26 @@ func (s *server) serve(ctx context.Context, stop func(), ways []way) error {
 		return err
 	default:
 		return nil
+	}
+}
+
+// keep lets run what goes on beside requests, and gives the call that ends it.
+func (s *server) keep() (end func()) {
+	keeping, stop := context.WithCancel(context.Background())
+	go s.store.Keep(keeping, s.rhythm)
+	go s.site.Daily.Keep(keeping.Done())
+	s.site.Hooks.Start()
+	mirrored := make(chan struct{})
+	go func() {
+		defer close(mirrored)
+		s.mirrors.Keep(keeping)
+	}()
+	if s.secured != nil && s.secured.begin != nil {
+		s.secured.begin(keeping)
+	}
+	return func() {
+		stop()
+		<-mirrored
 	}
 }
 

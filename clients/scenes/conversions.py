@@ -313,7 +313,7 @@ def verdicts_for_machines(room: Room) -> None:
     done = verdict_of(imports(room, stream + b"get-mark :1\n", "--json", "-"))
     assert isinstance(done.pop("seconds"), float)
     assert done == {"version": 1, "accepted": True, "saved": True, "fault": None, "meaning": None, "byte": None, "line": None, "text": None,
-                    "command": None, "command_line": None, "at_end": None, "kept": [], "head": None, "bytes": len(stream) + 12, "blobs": 4,
+                    "command": None, "command_line": None, "at_end": None, "kept": [], "renamed": [], "head": None, "bytes": len(stream) + 12, "blobs": 4,
                     "commits": 4, "tags": 1, "changed": {}}, done
     before = room.pool_bytes()
     told = imports(room, stream + b"get-mark :1\n", "--dry-run", "--json", room.path("verdict"))

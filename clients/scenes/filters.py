@@ -140,11 +140,12 @@ def signatures_are_stripped_or_refused(room: Room) -> None:
     verbatim = room.git(site, "fast-export", "--all", "--signed-tags=verbatim", "--mark-tags")
     stripped = room.git(site, "fast-export", "--all", "--signed-tags=strip", "--mark-tags")
     room.imported("git", stripped)
-    assert verdict_of(imports(room, verbatim, "--filter", "signatures", "--json", "-"))["changed"] == {"signatures": 1}
+    assert verdict_of(imports(room, verbatim, "--filter", "signatures=strip", "--json", "-"))["changed"] == {"signatures": 1}
     assert room.tenant_refs() == room.refs("git")
-    # Without the filter the signature is kept, as it is part of the message.
+    # The signature is part of the message. It is kept where what it signs is what it was.
     imports(room, verbatim, tenant="kept")
-    assert room.tenant_refs("kept") == room.refs(site, "refs/heads", "refs/tags")
+    assert verdict_of(imports(room, verbatim, "--filter", "signatures", "--json", "-", tenant="kept-too"))["changed"] == {}
+    assert room.tenant_refs("kept") == room.tenant_refs("kept-too") == room.refs(site, "refs/heads", "refs/tags")
     said = text(imports(room, verbatim, "--filter", "signatures=refuse", status=1, tenant="none").stderr)
     assert "a tag is signed, and signatures are refused" in said, said
     assert re.search(r"line [0-9]+: data [0-9]+\n  in the command of line [0-9]+: tag signed", said), said
@@ -161,6 +162,39 @@ def signatures_are_stripped_or_refused(room: Room) -> None:
     assert b"a commit is signed" in imports(room, signed, "--filter", "signatures=refuse", status=1).stderr
     # A stream that is cut in such a message is cut for the service, too.
     assert b"fault 6:" in imports(room, signed + delimited[:-4], "--filter", "signatures", status=1).stderr
+
+
+@scene
+def head_is_the_branch_that_is_named(room: Room) -> None:
+    """Fossil's stream has `feat` before `trunk`, and HEAD would name the first. A branch that is not there is refused, and nothing is saved."""
+    stream = "".join(f"commit refs/heads/{it}\ncommitter A <a@b> 1 +0000\ndata 0\n\n" for it in ("feat", "trunk")).encode()
+    said = text(imports(room, stream, "--head", "tru\x1bnk", status=1).stderr)
+    assert "there is no branch 'refs/heads/tru\\x1bnk' for HEAD after this stream; nothing is saved" in said, said
+    assert room.tenant_refs() == {}
+    assert "HEAD names refs/heads/trunk now" in text(imports(room, stream, "--head", "trunk").stderr)
+    assert room.tenant_head() == "refs/heads/trunk"
+    imports(room, stream, "--head", "refs/heads/feat")
+    assert room.tenant_head() == "refs/heads/feat"
+    imports(room, stream)
+    assert room.tenant_head() == "refs/heads/feat"
+    room.client("gitpool-import", "--all", os.devnull, "--pool", room.pool, "--head", "trunk", status=2)
+
+
+@scene
+def refusals_name_the_filter(room: Room) -> None:
+    """Where a filter takes away what is refused, the next step names it, and with it the stream is taken."""
+    commit = "commit refs/heads/main\nmark :1\n{}committer A <a@b> {} +0000\n{}data 0\n{}"
+    for at, (number, name, stream) in enumerate((
+            (2, "properties", commit.format("", 1, "", "property branch 3 a b\n")),
+            (2, "notes", "blob\nmark :9\ndata 1\nx\n" + commit.format("", 1, "", "") + "commit refs/notes/n\ncommitter A <a@b> 1 +0000\ndata 0\nN :9 :1\n"),
+            (5, "signatures", commit.format("", 1, f"gpgsig sha1 openpgp\ndata {len(SIGNATURE)}\n{SIGNATURE}", "")),
+            (8, "dates", "feature date-format=rfc2822\n" + commit.format("", "Tue, 14 Nov 2023 23:13:20", "", "")),
+            (8, "features", "feature export-marks=x\n" + commit.format("", 1, "", "")),
+            (8, "properties", "feature commit-properties\n" + commit.format("", 1, "", "")),
+            (8, "features", "option git depth=5\n" + commit.format("", 1, "", "")))):
+        said = text(imports(room, stream.encode(), status=1).stderr)
+        assert f"fault {number}:" in said and f"give --filter {name}, or export without it" in said, said
+        imports(room, stream.encode(), "--filter", name, tenant=f"t{at}")
 
 
 def noted(commits: int, steps: List[str]) -> bytes:

@@ -38,7 +38,7 @@ def many_repositories_and_streams(room: Room) -> None:
     room.client("gitpool-import", "-", "alone", "--pool", room.path("alone.pool"), data=exported)
     done = imports_all(room, [f"acme/site {room.path('my site')}", "# a comment", "", f"acme/bare {bare}", "empty empty", "s/1 stream",
                               "s/2 stream"],
-                       "--progress", "--json", "verdict")
+                       "--rewrite", "--progress", "--json", "verdict")
     lines = text(done.stdout).splitlines()
     assert lines[-1] == "5 imported, 0 failed" and lines[3].startswith("s/1        imported  1 objects, "), lines
     assert "[5/5] s/2: 100%" in text(done.stderr), done.stderr
@@ -52,7 +52,7 @@ def many_repositories_and_streams(room: Room) -> None:
         assert {os.fsdecode(ref.name): ref.target for ref in alone.refs("alone")} == room.tenant_refs("acme/site")
     # Another run of the same list leaves the same file.
     before = room.pool_bytes()
-    imports_all(room, [f"acme/site {room.path('my site')}", f"acme/bare {bare}", "empty empty", "s/1 stream", "s/2 stream"])
+    imports_all(room, [f"acme/site {room.path('my site')}", f"acme/bare {bare}", "empty empty", "s/1 stream", "s/2 stream"], "--rewrite")
     assert room.pool_bytes() == before
 
 

@@ -7,7 +7,7 @@ import time
 
 from .room import Room, commit_text, matches, os, scene, subprocess, text
 
-EXPORT_WORDS = ["fast-export", "--all", "--use-done-feature", "--mark-tags", "--reencode=no", "--signed-tags=strip"]
+EXPORT_WORDS = ["fast-export", "--all", "--use-done-feature", "--mark-tags", "--reencode=no", "--signed-tags=verbatim"]
 
 
 def exported(room: Room, tenant: str, into: str) -> None:

@@ -119,6 +119,42 @@ class Filters(unittest.TestCase):
             with self.assertRaises(FilterError):
                 rewritten(b"", filters)
 
+    def test_tags_that_stay_signed(self) -> None:
+        """A tag loses its signature where it reaches a commit that was signed, by a mark, a ref, a parent or another tag, and only there."""
+        head = b"committer A <a@b> 1 +0000\n"
+        signed = b"gpgsig sha1 openpgp\ndata 3\nabc\n"
+        tag = b"tag %b\nfrom %b\ntagger A <a@b> 1 +0000\ndata 36\nm\n-----BEGIN PGP SIGNATURE-----\nabc\n\n"
+        cut = b"tag %b\nfrom %b\ntagger A <a@b> 1 +0000\ndata 2\nm\n\n"
+        commits = (b"commit refs/heads/a\nmark :1\n" + head + b"data 0\n"
+                   b"commit refs/heads/b\nmark :2\n" + head + b"%b" + b"data 0\nfrom :1\n"
+                   b"commit refs/heads/a\nmark :3\n" + head + b"data 0\n"
+                   b"commit refs/heads/c\nmark :4\n" + head + b"data 0\nfrom :3\nmerge :2\n"
+                   b"commit refs/heads/b\nmark :5\n" + head + b"data 0\n"
+                   b"reset refs/heads/d\nfrom :5\n\nreset refs/heads/b\nfrom :1\n\n"
+                   b"commit refs/heads/d\nmark :6\n" + head + b"data 0\n"
+                   b"commit refs/heads/b\nmark :7\n" + head + b"data 0\n"
+                   b"commit refs/heads/e\nmark :2\n" + head + b"data 0\n")
+        named = ((b"1", b":1", tag), (b"3", b":3", tag), (b"4", b":4", cut), (b"5", b":5", cut), (b"6", b":6", cut), (b"7", b":7", tag),
+                 (b"again", b":2", tag), (b"by-ref", b"refs/heads/d", cut), (b"by-ref0", b"refs/heads/d^0", cut), (b"ref", b"refs/heads/b", tag),
+                 (b"of-cut", b"refs/tags/4", cut), (b"of-kept", b"refs/tags/3", tag))
+        stream = commits % signed + b"".join(tag % it[:2] for it in named)
+        wanted = commits % b"" + b"".join(it[2] % it[:2] for it in named)
+        self.assertEqual(rewritten(stream, "signatures")[0], wanted)
+        self.assertEqual(rewritten(stream, "signatures", tuple(range(1, len(stream))))[0], wanted)
+        self.assertEqual(rewritten(stream, "signatures=strip")[0], commits % b"" + b"".join(cut % it[:2] for it in named))
+
+    def test_commits_that_git_exports_unsigned(self) -> None:
+        """Which commits were signed is known by their `original-oid`, where the stream has no signatures."""
+        tag = b"tag t\nfrom :1\ntagger A <a@b> 1 +0000\ndata 36\nm\n-----BEGIN PGP SIGNATURE-----\nabc\n\n"
+        for name, is_cut in ((b"1" * 40, True), (b"2" * 40, False)):
+            stream = b"commit refs/heads/a\nmark :1\noriginal-oid %b\ncommitter A <a@b> 1 +0000\ndata 0\n" % name + tag
+            plan, recorder = Plan(), Recorder()
+            add_filters(plan, "signatures")
+            plan.signed = frozenset([b"1" * 40])
+            rewriter = plan.rewriter(cast(Service, recorder), b"t", lambda _: None)
+            rewriter.feed(stream)
+            self.assertEqual((b"PGP" not in recorder.fed, plan.changed["signatures"]), (is_cut, 2 * is_cut))
+
     def test_late_features(self) -> None:
         """After a command they are left to the service, which refuses them."""
         for line in (b"feature export-marks=x\n", b"option git depth=3\n"):

@@ -31,7 +31,23 @@ runs_by_a_link() {
 
 every_command_says_the_version() {
   for it in "$prefix"/bin/*; do
-    same "$("$it" --version)" "${it##*/} $version"
+    same "$("$it" --version | head -n 1)" "${it##*/} $version"
+  done
+  same "$(gitpool -V | cut -d : -f 1 | paste -sd ' ')" "gitpool $version commit kit logic proved"
+}
+
+# From the checkout, and from what is installed.
+pip_installs_the_package() {
+  local it
+  export PYTHONDONTWRITEBYTECODE=1
+  for it in "$top" "$prefix"/lib/gitpool/python/gitpool-"$version"-py3-none-any.whl; do
+    rm -rf "$room/site packages"
+    python3 -m pip install -q --no-index --no-deps --target "$room/site packages" "$it"
+    (cd "$room/site packages" && same "$(ls -d gitpool-*)" "gitpool-$version.dist-info" && cmp gitpool.py "$top/clients/gitpool.py")
+    same "$(cd "$room" && PYTHONPATH="$room/site packages" GITPOOL=$prefix/lib/gitpool/gitpool python3 -c 'if True:
+      import gitpool, gitpool_library
+      with gitpool.Service("all.pool", read_only=True) as service:
+          print(gitpool.__file__, service.head("acme/site"))')" "$room/site packages/gitpool.py b'refs/heads/main'"
   done
 }
 
@@ -61,7 +77,7 @@ git_clones_and_pushes() {
 
 clients_import_export_and_list() {
   cd "$room"
-  git -C site fast-export --all --use-done-feature --mark-tags --reencode=no --signed-tags=strip > site.fi
+  git -C site fast-export --all --use-done-feature --mark-tags --reencode=no --signed-tags=verbatim > site.fi
   gitpool-import site.fi other --pool all.pool
   git init -q --bare back.git
   gitpool-export other --pool all.pool --into back.git

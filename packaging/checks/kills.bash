@@ -33,6 +33,7 @@ commands_run() {
   for it in "$1"/bin/*; do
     [ -e "$it" ] || [ -L "$it" ] || continue
     said=$("$it" --version 2>&1) || { echo "$it: $said"; return 1; }
+    said=${said%%$'\n'*}
     [[ $said == "${it##*/} $2" || $said == "${it##*/} $3" ]] || { echo "$it: $said"; return 1; }
   done
 }

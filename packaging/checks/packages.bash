@@ -70,7 +70,7 @@ tar_ball_runs() {
   mv "$room/un packed"/gitpool-* "$room/un packed/g"
   same "$("$room/un packed/g/bin/gitpool" < "$top/streams/hello.fi")" $hello
   PATH="$room/un packed/g/bin:$plain_path" git clone -q "gitpool::$room/all.pool#acme/site" "$room/tar copy"
-  diff -r "$room/un packed/g" "$prefix" -x __pycache__ -x gitpool-static -x man1
+  diff -r "$room/un packed/g" "$prefix" -x __pycache__ -x gitpool-static -x man1 -x build
   (cd "$room/un packed/g/share/man/man1" && for it in ../../../bin/*; do gzip -t "${it##*/}.1.gz"; done)
   (cd "$room/un packed/g/share/doc/gitpool" && sha256sum -c --quiet SHA256SUMS)
   [ -z "$static" ] || same "$("$room/un packed/g/bin/gitpool-static" < "$top/streams/hello.fi")" $hello
@@ -104,6 +104,72 @@ debian_packages_are_well_formed() {
   done
 }
 
+# Nothing has proved the program of these packages, for their checkouts have no folder out.
+an_unproved_program_is_not_called_proved() {
+  local it
+  for it in "$room/out one"/*.deb; do
+    [[ $(dpkg-deb -f "$it" Version) == *+unproved ]]
+    ! dpkg-deb -f "$it" Description | grep -E "verified|is proved|proved (object|functions)"
+  done
+  same "$("$room/root/usr/bin/gitpool" --version)" "gitpool $version"$'\n'"commit: unknown"$'\n'"kit: unknown"$'\n'"logic: unknown"$'\n'"proved: no"
+}
+
+# Here the checkout has the program where ./build keeps what it has proved. Without Go there is no package of the server, which would take longest.
+a_proved_program_is_called_proved() {
+  local to="$room/root of proved" without
+  without=$(path_without go)
+  PATH=$without
+  cd "$room/two/of a longer name/checkout"
+  bash -c '. .ci/programs; know gitpool_cli && keep proved gitpool_cli "$1"' "" "$program"
+  ./package --no-static "$room/out proved"
+  same "$(find "$room/out proved" -name '*unproved*')" ""
+  dpkg-deb -x "$room/out proved"/gitpool_*.deb "$to"
+  [[ $(dpkg-deb -f "$room/out proved"/gitpool_*.deb Description) == "formally verified"*"is proved."* ]]
+  same "$("$to/usr/bin/gitpool" --version | sed '/^kit:/d; /^logic:/d')" \
+    "gitpool $version"$'\n'"commit: $(git rev-parse --short=12 HEAD)"$'\n'"proved: yes"
+  same "$(./gitpool --version)" "$("$to/usr/bin/gitpool" --version)"
+  # Another executable in its place is not the one that was proved.
+  printf x >> "$to/usr/lib/gitpool/gitpool"
+  same "$("$to/usr/bin/gitpool" --version | tail -n 1)" "proved: no, for it is not the executable that was installed"
+  bash -c '. packaging/tree; is_proved_here "$1"' "" "$program"
+  ! bash -c '. packaging/tree; is_proved_here "$1"' "" "$to/usr/lib/gitpool/gitpool"
+  rm -rf out
+}
+
+# path_without NAME: a folder of links to all commands of the PATH but one.
+path_without() {
+  local to=$room/without/$1 at
+  mkdir -p "$to"
+  tr : '\n' <<< "$plain_path" | while read -r at; do
+    [ ! -d "$at" ] || find "$at/" -maxdepth 1 ! -type d ! -name "$1" -exec ln -s -t "$to" {} + 2> /dev/null || :
+  done
+  echo "$to"
+}
+
+# told_first WORDS STATUS PATH SCRIPT [WORD..]: with this PATH the first line that a script prints has these words, and nothing is made.
+told_first() {
+  local wanted=$1 status=$2 path=$3 is=0 said
+  shift 3
+  said=$(PATH=$path "$@" 2>&1 < /dev/null) || is=$?
+  same "$is ${said%%$'\n'*}" "$status ${1##*/}: this needs $wanted is not on the PATH, or does not answer: README.md, \"Install\", says what it is for"
+  same "$(find out -type f ! -path 'out/digests/*' 2> /dev/null)" ""
+}
+
+what_is_missing_is_told_first() {
+  local kit="the Rattle kit, whose command rt" git="git, which" without
+  cd "$room/one"
+  without=$(path_without rt)
+  told_first "$kit" 125 "$without" ./build
+  told_first "$kit" 125 "$without" ./build gitpool_c
+  told_first "$kit" 1 "$without" .ci/run
+  told_first "$kit" 1 "$without" ./package "$room/out of nothing"
+  without=$(path_without git)
+  ! command -v rt > /dev/null || told_first "$git" 125 "$without" ./build
+  ! command -v rt > /dev/null || told_first "$git" 1 "$without" .ci/run
+  told_first "$git" 1 "$without" ./package --program "$program" "$room/out of nothing"
+  [ ! -e "$room/out of nothing" ]
+}
+
 # has_licence_of NAME FILE: the file has the licence of what is linked into an executable.
 has_licence_of() {
   grep -A 12 "^The executable contains parts of $1:" "$2" | grep -c "^Copyright:" > /dev/null || { echo "no licence of $1"; return 1; }
@@ -112,7 +178,10 @@ has_licence_of() {
 # The package of the server, beside that of the program.
 server_package_serves() {
   dpkg-deb -x "$(deb gitpool-server)" "$room/root"
-  same "$("$room/root/usr/bin/gitpoold" --version)" "gitpoold $version"
+  same "$("$room/root/usr/bin/gitpoold" --version | sed '2d')" "gitpoold $version
+proved: no
+gitpool: $room/root/usr/lib/gitpool/gitpool
+$("$room/root/usr/bin/gitpool" --version | sed 's/^gitpool /version: /; s/^/gitpool /')"
   PATH=$plain_path "$room/root/usr/bin/gitpoold" init "$room/served" > /dev/null
   echo "correct horse" | "$room/root/usr/bin/gitpoold" user "$room/served" alice
   [ -f "$room/served/pool" ] && [ -f "$room/served/host_key" ]

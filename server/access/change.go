@@ -57,7 +57,12 @@ func errUser(user string) error {
 	return fmt.Errorf("%q is no name of a user: letters, digits, `.`, `_` and `-`, and not `%s`", user, Login)
 }
 
-// AddKeys gives a user, or a token, the keys of an authorized_keys or .pub file. A key belongs to one of these.
+// KeyTaken says that a key belongs to another login.
+type KeyTaken struct{ Of string }
+
+func (k *KeyTaken) Error() string { return "a key is that of " + k.Of + " already" }
+
+// AddKeys gives a user, or a token, the keys of an authorized_keys or .pub file. A key belongs to one of these, or it is *KeyTaken.
 func AddKeys(folder, user string, text []byte) (added int, err error) {
 	if err := checkLogin(folder, user); err != nil {
 		return 0, err
@@ -71,7 +76,7 @@ func AddKeys(folder, user string, text []byte) (added int, err error) {
 			lines = withoutKey(lines, user, key)
 			for _, line := range lines {
 				if strings.Contains(line, key) {
-					return nil, fmt.Errorf("a key is that of %s already", strings.Fields(line)[0])
+					return nil, &KeyTaken{strings.Fields(line)[0]}
 				}
 			}
 			lines = append(lines, user+" "+key)

@@ -44,6 +44,18 @@ func reached(groups map[string][]string, name string) []string {
 	return all
 }
 
+// IsOneOf tells whether a login belongs to one of these users, or to a member of one of these groups. A visitor is nobody.
+func (a *Access) IsOneOf(login string, names []string) bool {
+	for _, mine := range reached(a.rules.Get().groups, Person(login)) {
+		for _, name := range names {
+			if mine != "" && mine == name {
+				return true
+			}
+		}
+	}
+	return false
+}
+
 // AddMember puts a user, or another group, into a group. A group that would come to be in itself is refused.
 func AddMember(folder, group, member string) error {
 	if !isGroup(group) {

@@ -176,6 +176,9 @@ func Tokens(folder string) (all []string, err error) {
 	return all, err
 }
 
+// IsToken tells whether a login is that of a token, and not a user's own.
+func IsToken(login string) bool { return Person(login) != login }
+
 // ofOthers gives the lines that begin neither with a user nor with one of its tokens.
 func ofOthers(lines []string, user string) (left []string) {
 	for _, line := range lines {

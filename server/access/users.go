@@ -29,6 +29,24 @@ func Users(folder string) (all []string, err error) {
 	return all, nil
 }
 
+// Grants gives what a login may do, a line each: `PATTERN RIGHT`, with `by @GROUP` or `by *` where it is granted to a group or to everyone. A token
+// may do no more of it than its own line says.
+func (a *Access) Grants(login string) (all []string) {
+	r := a.rules.Get()
+	for _, name := range r.grantees(Person(login)) {
+		for _, it := range r.grants[name] {
+			line := it.pattern + " " + rightWords[it.right]
+			if name != Person(login) {
+				line += " by " + name
+			}
+			all = append(all, line)
+		}
+	}
+	return all
+}
+
+var rightWords = map[Right]string{Read: "r", Write: "rw"}
+
 func passwordOf(words []string) string { return words[0] + " password" }
 
 func keyOf(words []string) string {

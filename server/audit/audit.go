@@ -1,5 +1,5 @@
-// Package audit keeps the file `audit` of a server's folder, to which lines are only appended: what operators changed, when, who they are, and from
-// where. A line is on the disk before its change begins, so no change lacks one; what failed has a second line that says why.
+// Package audit keeps the file `audit` of a server's folder, to which lines are only appended: what operators changed, and users of their own accounts,
+// when, who they are, and from where. A line is on the disk before its change begins, so no change lacks one; what failed has a second line that says why.
 package audit
 
 import (
@@ -99,8 +99,17 @@ func Of(ctx context.Context) Who {
 
 func path(folder string) string { return filepath.Join(folder, "audit") }
 
-// Note appends a line to the file of a folder. It is on the disk when Note returns nil.
+// Note appends the line of what an operator did to the file of a folder. It is on the disk when Note returns nil.
 func Note(folder string, who Who, what string, failed error) error {
+	return appendLine(folder, func(to *logs.Log) { to.Operator(who.Line(what, failed)) })
+}
+
+// NoteAccount appends the line of what a user changed of the own account, as Note does.
+func NoteAccount(folder string, it logs.Account) error {
+	return appendLine(folder, func(to *logs.Log) { to.Account(it) })
+}
+
+func appendLine(folder string, write func(*logs.Log)) error {
 	file, err := os.OpenFile(path(folder), os.O_RDWR|os.O_CREATE|os.O_APPEND, 0o600)
 	if err != nil {
 		return err
@@ -113,7 +122,7 @@ func Note(folder string, who Who, what string, failed error) error {
 	if isTorn(file) {
 		text.WriteByte('\n')
 	}
-	logs.New(&text, nil).Operator(who.Line(what, failed))
+	write(logs.New(&text, nil))
 	if _, err := file.Write(text.Bytes()); err != nil {
 		return err
 	}

@@ -6,7 +6,7 @@ import (
 	"fmt"
 	"hash"
 
-	"gitpoold/objects"
+	"gitpoold/fsck"
 	"gitpoold/pack"
 	"gitpoold/tenants"
 )
@@ -67,24 +67,24 @@ func (p *passing) measureLines(part []byte) {
 		end := bytes.IndexByte(part, '\n')
 		if end < 0 {
 			p.line += len(part)
-			p.isLong = p.line >= objects.LongestAttributesLine
+			p.isLong = p.line >= fsck.LongestAttributesLine
 			return
 		}
-		p.isLong = p.line+end >= objects.LongestAttributesLine
+		p.isLong = p.line+end >= fsck.LongestAttributesLine
 		p.line, part = 0, part[end+1:]
 	}
 }
 
 // end tells as which of the files that git reads by itself the blob is refused, and its name, which is zero where that is not known.
-func (p *passing) end() (bad objects.Special, name tenants.Name) {
+func (p *passing) end(rules fsck.Rules) (bad fsck.Special, name tenants.Name) {
 	isWhole := p.size <= heldBlob
-	if p.hasWord = p.hasWord || hasWord(p.head); p.hasWord && (!isWhole || isBad(p.head, objects.Modules)) {
-		bad |= objects.Modules
+	if p.hasWord = p.hasWord || hasWord(p.head); p.hasWord && (!isWhole || isBad(rules, p.head)) {
+		bad |= fsck.Modules
 	}
 	if p.isLong {
-		bad |= objects.Attributes
+		bad |= fsck.Attributes
 	}
-	switch {
+	switch bad &= rules.Refusable(); {
 	case bad == 0:
 	case isWhole:
 		name = pack.NameOf(tenants.Blob, p.head)
@@ -94,8 +94,8 @@ func (p *passing) end() (bad objects.Special, name tenants.Name) {
 	return bad, name
 }
 
-func isBad(contents []byte, special objects.Special) bool {
-	return objects.FsckSpecial(tenants.Object{Kind: tenants.Blob, Contents: contents}, special) != nil
+func isBad(rules fsck.Rules, contents []byte) bool {
+	return fsck.Fault(rules.Special(tenants.Object{Kind: tenants.Blob, Contents: contents}, fsck.Modules)) != nil
 }
 
 // hasWord looks for the word by its rarest letter.

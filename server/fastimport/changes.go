@@ -4,9 +4,8 @@ import (
 	"bytes"
 	"context"
 	"errors"
-	"strings"
 
-	"gitpoold/objects"
+	"gitpoold/fsck"
 	"gitpoold/tenants"
 )
 
@@ -19,7 +18,7 @@ func (j *judge) takeModify(rest []byte) error {
 		return nil
 	}
 	j.isInline = string(reference) == "inline"
-	special, err := fsckPath(path, string(mode) == modeLink)
+	special, err := j.takePath(path, string(mode) == modeLink)
 	if j.special = special; err != nil {
 		return err
 	}
@@ -29,52 +28,56 @@ func (j *judge) takeModify(rest []byte) error {
 	case special == 0:
 		return nil
 	case string(mode) == modeTree:
-		return refuse("a directory where git reads a file")
+		return j.takeDirectory(special)
 	case j.isInline:
 		return nil
 	}
 	return j.fsckFile(special, reference)
 }
 
-// fsckPath judges the names in a path, and tells which file git takes its last one for.
-func fsckPath(path []byte, isLink bool) (special objects.Special, err error) {
+// takePath judges the names in a path, and tells which file git takes its last one for.
+func (j *judge) takePath(path []byte, isLink bool) (special fsck.Special, err error) {
 	for {
 		name, rest, hasMore := bytes.Cut(path, []byte("/"))
-		special, why := objects.FsckName(name, isLink && !hasMore)
-		switch {
-		case why != "":
-			return 0, refuse("%s", why)
-		case hasMore && special != 0:
-			return 0, refuse("a directory where git reads a file")
-		case !hasMore:
-			return special, nil
+		special, found := j.rules.Name(name, isLink && !hasMore)
+		err := judged("a tree", found)
+		if err == nil && hasMore {
+			err = j.takeDirectory(special)
+		}
+		if err != nil || !hasMore {
+			return special, err
 		}
 		path = rest
 	}
 }
 
-func (j *judge) fsckGitlink(special objects.Special, reference []byte) error {
+// takeDirectory judges a directory where git reads a file by itself.
+func (j *judge) takeDirectory(special fsck.Special) error {
+	return judged("a tree", j.rules.Special(tenants.Object{Kind: tenants.Tree}, special))
+}
+
+func (j *judge) fsckGitlink(special fsck.Special, reference []byte) error {
 	name, isName := tenants.ParseName(string(reference))
 	switch {
 	case isName && name.IsZero():
-		return refuse("an entry that names no object")
+		return judged("a tree", j.rules.Gitlink(true))
 	case special == 0:
 		return nil
 	case isName:
 		j.asked = &stored{name, special}
 		return nil
 	}
-	return refuse("a commit where git reads a file")
+	return judged("a tree", j.rules.Special(tenants.Object{Kind: tenants.Commit}, special))
 }
 
 // fsckFile judges a blob that a mark or a name tells.
-func (j *judge) fsckFile(special objects.Special, reference []byte) error {
+func (j *judge) fsckFile(special fsck.Special, reference []byte) error {
 	name, isName := tenants.ParseName(string(reference))
 	mark := markOf(reference)
 	for _, it := range []struct {
-		special objects.Special
+		special fsck.Special
 		bad     *badBlobs
-	}{{objects.Modules, &j.modules}, {objects.Attributes, &j.others}} {
+	}{{fsck.Modules, &j.modules}, {fsck.Attributes, &j.others}} {
 		if special&it.special != 0 && it.bad.has(mark, name, isName) {
 			return badFile(it.special)
 		}
@@ -85,11 +88,11 @@ func (j *judge) fsckFile(special objects.Special, reference []byte) error {
 	return nil
 }
 
-func badFile(special objects.Special) error {
-	if special&objects.Modules != 0 {
+func badFile(special fsck.Special) error {
+	if special&fsck.Modules != 0 {
 		return refuse("a .gitmodules that does harm")
 	}
-	return refuse("a .gitattributes with a line of more than %d bytes", objects.LongestAttributesLine-1)
+	return refuse("a .gitattributes with a line of more than %d bytes", fsck.LongestAttributesLine-1)
 }
 
 // settle judges what the last line asked for, if that was in the repository before, or at the last checkpoint. Else the stream has it, or the
@@ -102,19 +105,15 @@ func (j *judge) settle(ctx context.Context) error {
 	j.asked = nil
 	object, err := j.look(ctx, asked.name)
 	if errors.Is(err, tenants.ErrMissing) {
-		if j.isUnsure && asked.special&objects.Modules != 0 {
-			return badFile(objects.Modules)
+		if j.isUnsure && asked.special&fsck.Modules != 0 {
+			return badFile(fsck.Modules)
 		}
 		return nil
 	}
-	if err == nil {
-		err = objects.FsckSpecial(object, asked.special)
+	if err != nil {
+		return err
 	}
-	var refused *objects.Refusal
-	if errors.As(err, &refused) {
-		return refuse("a file that git reads by itself, and %s", strings.TrimSuffix(refused.Why, objects.NotTaken))
-	}
-	return err
+	return judged("a file that git reads by itself", j.rules.Special(object, asked.special))
 }
 
 // takeCopy judges `C <source> <destination>` and `R <source> <destination>`. What is at the source is known by its name alone.
@@ -124,11 +123,12 @@ func (j *judge) takeCopy(rest []byte) error {
 	if !isGood || !isPath {
 		return nil
 	}
-	special, err := fsckPath(destination, false)
+	special, err := j.takePath(destination, false)
 	if err != nil || special == 0 {
 		return err
 	}
-	was, _ := objects.FsckName(source[bytes.LastIndexByte(source, '/')+1:], false)
+	special &= j.rules.Refusable()
+	was, _ := j.rules.Name(source[bytes.LastIndexByte(source, '/')+1:], false)
 	if special&^was != 0 {
 		return refuse("a file that git reads, copied from another name: name its contents by `M`")
 	}

@@ -10,7 +10,7 @@ import (
 	"context"
 	"fmt"
 
-	"gitpoold/objects"
+	"gitpoold/fsck"
 	"gitpoold/tenants"
 )
 
@@ -19,10 +19,18 @@ type Refused struct{ what string }
 
 // Error gives the sentence, with the number under which docs/FAULTS.md has more.
 func (r *Refused) Error() string {
-	return "the stream has " + r.what + objects.NotTaken + "; what came after its last checkpoint is dropped (fault 25)"
+	return "the stream has " + r.what + ", which is not taken here; what came after its last checkpoint is dropped (fault 25)"
 }
 
 func refuse(format string, values ...any) error { return &Refused{fmt.Sprintf(format, values...)} }
+
+// judged refuses where a message is an error. `what` says of what it is.
+func judged(what string, found []fsck.Finding) error {
+	if fault := fsck.Fault(found); fault != nil {
+		return refuse("%s: %s", what, fault)
+	}
+	return nil
+}
 
 // Reader reads one stream.
 type Reader struct {
@@ -37,9 +45,9 @@ type Reader struct {
 // Look gives an object of the repository at its last checkpoint, or tenants.ErrMissing.
 type Look func(context.Context, tenants.Name) (tenants.Object, error)
 
-// New gives a reader. It looks for objects that the stream has not, and puts where git reads a file.
-func New(look Look) *Reader {
-	return &Reader{judge: judge{look: look}}
+// New gives a reader that judges by these rules. It looks for objects that the stream has not, and puts where git reads a file.
+func New(rules fsck.Rules, look Look) *Reader {
+	return &Reader{judge: judge{rules: rules, look: look}}
 }
 
 // Part is the front of a piece, which may go to the program at once.

@@ -9,7 +9,7 @@ import (
 	"strings"
 	"testing"
 
-	"gitpoold/objects"
+	"gitpoold/fsck"
 	"gitpoold/pack"
 	"gitpoold/tenants"
 )
@@ -37,7 +37,7 @@ func (r repository) add(kind tenants.Kind, contents string) string {
 
 // read reads a stream in pieces of so many bytes, and gives how many bytes were let through and the refusal.
 func read(before repository, text []byte, size int, most Part) (through int, parts []Part, err error) {
-	r := New(before.look)
+	r := New(fsck.Strict(), before.look)
 	for len(text) > 0 {
 		if size > len(text) {
 			size = len(text)
@@ -62,7 +62,7 @@ func data(text string) string { return fmt.Sprintf("data %d\n%s\n", len(text), t
 
 func blobOf(mark int, text string) string { return fmt.Sprintf("blob\nmark :%d\n%s", mark, data(text)) }
 
-var long = strings.Repeat("x", objects.LongestAttributesLine)
+var long = strings.Repeat("x", fsck.LongestAttributesLine)
 
 var good = []string{
 	head + "M 100644 inline .gitignore\n" + data("x"),
@@ -83,7 +83,7 @@ var good = []string{
 	blobOf(1, harmful) + "commit refs/heads/a\nmark :1\ncommitter a <b> 1 +0000\ndata 0\n\n" + head + "M 100644 :1 .gitmodules\n",
 	blobOf(1, harmful) + "alias\nmark :1\nto refs/heads/x\n" + head + "M 100644 :1 .gitmodules\n",
 	blobOf(1, long) + head + "M 100644 :1 .gitmodules\n",
-	blobOf(1, strings.Repeat("x", objects.LongestAttributesLine-1)+"\n"+strings.Repeat("y", 2047)) + head + "M 100644 :1 .gitattributes\n",
+	blobOf(1, strings.Repeat("x", fsck.LongestAttributesLine-1)+"\n"+strings.Repeat("y", 2047)) + head + "M 100644 :1 .gitattributes\n",
 	blobOf(1, strings.Repeat("x\n", heldBlob)) + head + "M 100644 :1 .gitmodules\n",
 	"tag v1\nfrom :1\ntagger a <b> 1 +0000\ndata 1\n\x00\n",
 	"commit refs/heads/main\nauthor <b> 0 +0000\ncommitter a <b> 9223372036854775807 +0000\ndata 0\n",
@@ -177,7 +177,7 @@ func TestStoredObjects(t *testing.T) {
 		}
 	}
 	broken := errors.New("broken")
-	r := New(func(context.Context, tenants.Name) (tenants.Object, error) { return tenants.Object{}, broken })
+	r := New(fsck.Rules{}, func(context.Context, tenants.Name) (tenants.Object, error) { return tenants.Object{}, broken })
 	if _, err := r.Next(context.Background(), []byte(head+"M 644 "+strings.Repeat("2", 40)+" .gitmodules\n"), all); err != broken {
 		t.Error(err)
 	}
@@ -224,7 +224,7 @@ func TestParts(t *testing.T) {
 
 // TestMemory lets many lines, blobs and marks pass: what is held is bounded.
 func TestMemory(t *testing.T) {
-	r := New(repository{}.look)
+	r := New(fsck.Rules{}, repository{}.look)
 	next := func(text string) {
 		if part, err := r.Next(context.Background(), []byte(text), all); err != nil || part.Bytes != len(text) {
 			t.Fatalf("%d bytes: %v", part.Bytes, err)
@@ -248,7 +248,7 @@ func TestMemory(t *testing.T) {
 
 // TestTooManyModules refuses a stream whose blobs cannot all be remembered.
 func TestTooManyModules(t *testing.T) {
-	r := New(repository{}.look)
+	r := New(fsck.Rules{}, repository{}.look)
 	fill(&r.judge.modules)
 	for text, want := range map[string]bool{harmful: true, "fine": false, long: false} {
 		if _, err := r.Next(context.Background(), []byte(blobOf(1<<40, text)), all); (err != nil) != want {

@@ -4,6 +4,7 @@ import (
 	"bytes"
 	"strconv"
 
+	"gitpoold/fsck"
 	"gitpoold/objects"
 	"gitpoold/tenants"
 )
@@ -32,12 +33,13 @@ const (
 // stored is an object that a line names, and the files that git takes it for.
 type stored struct {
 	name    tenants.Name
-	special objects.Special
+	special fsck.Special
 }
 
 // judge refuses what git's fsck refuses in the objects that a stream tells. What the program refuses it lets pass.
 type judge struct {
-	look Look
+	rules fsck.Rules
+	look  Look
 	// asked is what the last line puts where git reads a file.
 	asked *stored
 
@@ -46,7 +48,7 @@ type judge struct {
 	mark uint64
 	// isInline says that the data of a file comes, which git reads as `special`.
 	isInline bool
-	special  objects.Special
+	special  fsck.Special
 	isDone   bool
 
 	data passing
@@ -73,9 +75,7 @@ func (j *judge) takeLine(line []byte) error {
 	case "author", "committer", "tagger":
 		return j.takeIdent(word, rest)
 	case "encoding":
-		if bytes.IndexByte(rest, 0) >= 0 {
-			return refuse("a commit with a byte 0")
-		}
+		return j.takeHeader("commit", line)
 	case "M":
 		return j.takeModify(rest)
 	case "C", "R":
@@ -116,13 +116,22 @@ func (j *judge) takeIdent(word, ident []byte) error {
 	if bytes.HasPrefix(ident, []byte("<")) {
 		ident = append([]byte(" "), ident...)
 	}
-	switch why := objects.FsckIdent(ident); {
-	case why != "":
-		return refuse("a %s with an %s line with %s", kind, word, why)
-	case bytes.IndexByte(ident, 0) >= 0:
-		return refuse("a %s with a byte 0 in its %s line", kind, word)
+	if !objects.IsIdent(ident) {
+		return nil
 	}
-	return nil
+	if err := j.takeHeader(kind, ident); err != nil {
+		return err
+	}
+	return judged("a "+kind, j.rules.Ident(ident))
+}
+
+// takeHeader judges a line of a header: it has no NUL.
+func (j *judge) takeHeader(kind string, line []byte) error {
+	at := bytes.IndexByte(line, 0)
+	if at < 0 {
+		return nil
+	}
+	return judged("a "+kind, j.rules.HeaderNul(at))
 }
 
 func (j *judge) beginData(size int64) {
@@ -142,12 +151,9 @@ func (j *judge) takeData(part []byte) {
 
 func (j *judge) endData() error {
 	if !j.isBlob {
-		if j.hasZero && j.command == commit {
-			return refuse("a commit with a byte 0")
-		}
-		return nil
+		return judged("a commit", j.rules.Message(j.hasZero && j.command == commit))
 	}
-	bad, name := j.data.end()
+	bad, name := j.data.end(j.rules)
 	isInline := j.isInline
 	j.isInline = false
 	if isInline && bad&j.special != 0 {
@@ -163,11 +169,11 @@ func (j *judge) endData() error {
 }
 
 // remember keeps what a blob cannot be, until a file names it.
-func (j *judge) remember(bad objects.Special, mark uint64, name tenants.Name) error {
-	if bad&objects.Attributes != 0 {
+func (j *judge) remember(bad fsck.Special, mark uint64, name tenants.Name) error {
+	if bad&fsck.Attributes != 0 {
 		j.others.add(mark, name)
 	}
-	if bad&objects.Modules == 0 {
+	if bad&fsck.Modules == 0 {
 		return nil
 	}
 	j.isUnsure = j.isUnsure || name.IsZero()

@@ -1,8 +1,9 @@
-// Package hooks tells programs and http addresses of pushes, after them. No push waits for what is told.
+// Package hooks lets programs judge pushes before they change anything, and tells programs and http addresses of pushes after them. No push waits for
+// what is told. What addresses are told is kept until they have taken it, by the package webhooks.
 //
 // The operator's file `hooks` has lines `PATTERN WHERE`: the pattern names tenants as one of a grant does, and WHERE is the path of a
-// program or an address that begins with http:// or https://. The command `gitpoold hooks` changes it, and a running server reads it
-// again when it has changed.
+// program or an address that begins with http:// or https://. A line `PATTERN pre-receive WHERE`, or with `update`, has a program that judges
+// (githooks(5)). The command `gitpoold hooks` changes the file, and a running server reads it again when it has changed.
 package hooks
 
 import (
@@ -13,6 +14,8 @@ import (
 
 	"gitpoold/lists"
 	"gitpoold/metrics"
+	"gitpoold/turns"
+	"gitpoold/webhooks"
 )
 
 // Change is a ref that a push changed. Old and New are names of objects in digits, zeros where there is none.
@@ -57,10 +60,15 @@ type Hooks struct {
 	ctx     context.Context
 	stop    func()
 	running sync.WaitGroup
+	// Addresses are told over http.
+	Addresses *webhooks.Sender
 
 	mutex    sync.Mutex
 	queues   map[string]*queue
 	isClosed bool
+
+	// judging are the places of hooks that judge pushes.
+	judging *turns.Places
 }
 
 // queue is what waits for one hook, which is told one push after another.
@@ -77,7 +85,12 @@ func Load(folder string, within func() time.Duration, tell func(string, ...any),
 	if err != nil {
 		return nil, err
 	}
-	h := &Hooks{lines: followed, within: within, tell: tell, metrics: m, queues: map[string]*queue{}}
+	h := &Hooks{lines: followed, within: within, tell: tell, metrics: m, queues: map[string]*queue{},
+		judging: turns.New(judgesAtOnce)}
+	h.Addresses, err = webhooks.Open(webhooks.Config{Folder: folder, Within: within, IsWanted: h.hasPlace, Tell: tell, Metrics: m})
+	if err != nil {
+		return nil, err
+	}
 	h.ctx, h.stop = context.WithCancel(context.Background())
 	m.Gauge("gitpoold_hooks_waiting", "Pushes that hooks are still to be told of.", func() float64 { return float64(h.Waiting()) })
 	return h, nil
@@ -87,15 +100,33 @@ func Load(folder string, within func() time.Duration, tell func(string, ...any),
 func (h *Hooks) Tell(p Push) {
 	told := map[string]bool{}
 	for _, it := range h.lines.Get() {
-		if it.matches(p.Tenant) && !told[it.where] {
+		if it.kind == PostReceive && it.matches(p.Tenant) && !told[it.where] {
 			told[it.where] = true
-			h.put(it.where, p)
+			if isAddress(it.where) {
+				h.Addresses.Put(it.where, event(p))
+			} else {
+				h.put(it.where, p)
+			}
 		}
 	}
 }
 
+// Start tells addresses of what they were not told before the server started. The folder has to be this server's alone.
+func (h *Hooks) Start() { h.Addresses.Start() }
+
+// hasPlace tells whether a hook is in the list.
+func (h *Hooks) hasPlace(where string) bool {
+	for _, it := range h.lines.Get() {
+		if it.where == where {
+			return true
+		}
+	}
+	return false
+}
+
 // Waiting is how many pushes hooks are still to be told of.
 func (h *Hooks) Waiting() (count int) {
+	count = h.Addresses.Waiting()
 	h.mutex.Lock()
 	defer h.mutex.Unlock()
 	for _, q := range h.queues {
@@ -104,15 +135,16 @@ func (h *Hooks) Waiting() (count int) {
 	return count
 }
 
-// Close ends what is at work, and drops what waits.
+// Close ends what is at work. Programs are not told of what waits, and addresses after the next start.
 func (h *Hooks) Close() {
 	h.mutex.Lock()
 	h.isClosed = true
 	h.mutex.Unlock()
-	if waiting := h.Waiting(); waiting > 0 {
+	if waiting := h.Waiting() - h.Addresses.Waiting(); waiting > 0 {
 		h.tell("the server stops; hooks are not told of %d pushes", waiting)
 	}
 	h.stop()
+	h.Addresses.Close()
 	h.running.Wait()
 }
 
@@ -182,16 +214,11 @@ func (h *Hooks) leave(q *queue) {
 	q.pushes = q.pushes[1:]
 }
 
-// deliver tells a hook of one push, within its time.
+// deliver tells a program of one push, within its time.
 func (h *Hooks) deliver(where string, p Push) error {
 	ctx, stop := context.WithTimeout(h.ctx, h.within())
 	defer stop()
-	var err error
-	if isAddress(where) {
-		err = post(ctx, where, p)
-	} else {
-		err = run(ctx, where, p)
-	}
+	err := run(ctx, where, p)
 	switch {
 	case err != nil && h.ctx.Err() != nil:
 		return errStopped

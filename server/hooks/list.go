@@ -10,10 +10,18 @@ import (
 
 	"gitpoold/access"
 	"gitpoold/lists"
+	"gitpoold/webhooks"
 )
 
-// line is one line of the file: a hook, and the tenants of whose pushes it is told.
-type line struct{ pattern, where string }
+// The kinds of hooks, as githooks(5) names them: those that judge a push, and those that are told of it.
+const (
+	PreReceive  = "pre-receive"
+	Update      = "update"
+	PostReceive = "post-receive"
+)
+
+// line is one line of the file: a hook, what it is for, and the tenants of whose pushes it is told.
+type line struct{ pattern, kind, where string }
 
 func (l line) matches(tenant string) bool { return access.Matches(l.pattern, tenant) }
 
@@ -34,7 +42,12 @@ func resultOf(err error) string {
 }
 
 // Unread says why the list cannot be read, so that what was read before holds. It is nil where it can.
-func (h *Hooks) Unread() error { return h.lines.Unread() }
+func (h *Hooks) Unread() error {
+	if err := h.lines.Unread(); err != nil {
+		return err
+	}
+	return h.Addresses.Unread()
+}
 
 func read(path string) (all []line, err error) {
 	lines, err := lists.Read(path)
@@ -49,10 +62,32 @@ func read(path string) (all []line, err error) {
 }
 
 func parse(words []string) (line, error) {
-	if len(words) != 2 || !access.ValidPattern(words[0]) {
-		return line{}, fmt.Errorf("`%s` is no line PATTERN WHERE", strings.Join(words, " "))
+	all := strings.Join(words, " ")
+	if len(words) == 2 {
+		words = []string{words[0], PostReceive, words[1]}
 	}
-	return line{words[0], words[1]}, checkPlace(words[1])
+	if len(words) != 3 || !access.ValidPattern(words[0]) {
+		return line{}, fmt.Errorf("`%s` is no line PATTERN WHERE, or PATTERN KIND WHERE", all)
+	}
+	it := line{words[0], words[1], words[2]}
+	switch it.kind {
+	case PostReceive:
+	case PreReceive, Update:
+		if isAddress(it.where) {
+			return it, fmt.Errorf("a %s hook is a program, and no address", it.kind)
+		}
+	default:
+		return it, fmt.Errorf("`%s` is no kind of a hook: %s, %s or %s", it.kind, PreReceive, Update, PostReceive)
+	}
+	return it, checkPlace(it.where)
+}
+
+// text is the line as the file has it. One of the kind that was there first has no word for it.
+func (l line) text() string {
+	if l.kind == PostReceive {
+		return l.pattern + " " + l.where
+	}
+	return l.pattern + " " + l.kind + " " + l.where
 }
 
 // checkPlace asks that a hook is the path of a program, or an address.
@@ -75,58 +110,66 @@ func isAddress(where string) bool {
 }
 
 // shown is a hook as the log has it: of an address neither a password nor what stands after its path.
-func shown(where string) string {
-	address, err := url.Parse(where)
-	if !isAddress(where) || err != nil {
-		return where
-	}
-	return (&url.URL{Scheme: address.Scheme, Host: address.Host, Path: address.Path}).String()
-}
+func shown(where string) string { return webhooks.Shown(where) }
 
 // Rows gives the lines of a folder's file.
 func Rows(folder string) ([]string, error) {
 	all, err := read(filepath.Join(folder, "hooks"))
 	rows := make([]string, len(all))
 	for at, it := range all {
-		rows[at] = it.pattern + " " + it.where
+		rows[at] = it.text()
 	}
 	return rows, err
 }
 
-// Add lets a hook be told of the pushes to the tenants that a pattern names. A program has to be there.
-func Add(folder, pattern, where string) error {
-	if _, err := parse([]string{pattern, where}); err != nil {
+// Add lets a hook judge the pushes to the tenants that a pattern names, or be told of them. Its words are the pattern, the kind unless that is
+// post-receive, and the program, which has to be there, or the address, which may be inside only where that is allowed.
+func Add(folder string, words ...string) error {
+	wanted, err := parse(words)
+	if err == nil && isAddress(wanted.where) {
+		err = webhooks.CheckPlace(folder, wanted.where)
+	} else if err == nil {
+		err = checkProgram(wanted.where)
+	}
+	if err != nil {
 		return err
 	}
-	if !isAddress(where) {
-		info, err := os.Stat(where)
-		if err != nil {
-			return err
-		}
-		if info.IsDir() || info.Mode()&0o111 == 0 {
-			return fmt.Errorf("%s is no program", where)
-		}
-	}
 	return lists.Change(filepath.Join(folder, "hooks"), func(lines []string) ([]string, error) {
-		left, _ := without(lines, pattern, where)
-		return append(left, pattern+" "+where), nil
+		left, _ := without(lines, wanted)
+		return append(left, wanted.text()), nil
 	})
 }
 
-// Remove takes a hook back.
-func Remove(folder, pattern, where string) error {
+// checkProgram asks that there is a program, unless this is an address.
+func checkProgram(where string) error {
+	if isAddress(where) {
+		return nil
+	}
+	info, err := os.Stat(where)
+	if err == nil && (info.IsDir() || info.Mode()&0o111 == 0) {
+		err = fmt.Errorf("%s is no program", where)
+	}
+	return err
+}
+
+// Remove takes a hook back, which has the words by which it was added.
+func Remove(folder string, words ...string) error {
+	wanted, err := parse(words)
+	if err != nil {
+		return err
+	}
 	return lists.Change(filepath.Join(folder, "hooks"), func(lines []string) ([]string, error) {
-		left, found := without(lines, pattern, where)
+		left, found := without(lines, wanted)
 		if !found {
-			return nil, fmt.Errorf("there is no hook `%s %s`", pattern, where)
+			return nil, fmt.Errorf("there is no hook `%s`", wanted.text())
 		}
 		return left, nil
 	})
 }
 
-func without(lines []string, pattern, where string) (left []string, found bool) {
+func without(lines []string, wanted line) (left []string, found bool) {
 	for _, it := range lines {
-		if words := strings.Fields(it); len(words) == 2 && words[0] == pattern && words[1] == where {
+		if has, err := parse(strings.Fields(it)); err == nil && has == wanted {
 			found = true
 			continue
 		}

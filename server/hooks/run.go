@@ -30,10 +30,7 @@ func run(ctx context.Context, path string, p Push) error {
 	defer out.Close()
 	said := make(chan []byte, 1)
 	go func() { said <- firstOf(out) }()
-	go func() {
-		_, _ = io.WriteString(in, p.lines())
-		in.Close()
-	}()
+	go feed(in, p.lines())
 	awaitEnd(ctx, command.Process.Pid)
 	err = command.Wait()
 	// What it printed is in the pipe. Who has left its group may have the pipe open still.
@@ -42,6 +39,12 @@ func run(ctx context.Context, path string, p Push) error {
 		return fmt.Errorf("%w: %s", err, text)
 	}
 	return err
+}
+
+// feed lets a program read a text to its end.
+func feed(in *os.File, text string) {
+	_, _ = io.WriteString(in, text)
+	in.Close()
 }
 
 // start starts a command, and gives the pipes to what it reads and from what it prints.

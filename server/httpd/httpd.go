@@ -24,6 +24,7 @@ import (
 // server answers requests for one site.
 type server struct {
 	*site.Site
+	forms *forms
 }
 
 // Most of a request's head. A client sends one of a few hundred bytes.
@@ -32,14 +33,19 @@ const headBytes = 32 << 10
 // Serve answers requests until ctx is done. Then it takes no more connections, lets those requests end that have begun, for a while,
 // and returns.
 func Serve(ctx context.Context, listener net.Listener, s *site.Site) error {
+	return serve(ctx, seenHeads{listener}, s, &server{s, newForms()})
+}
+
+// serve lets a handler answer requests until ctx is done.
+func serve(ctx context.Context, listener net.Listener, s *site.Site, handler http.Handler) error {
 	values := s.Limits.Get()
 	h := &http.Server{
-		Handler: &server{s}, ReadHeaderTimeout: values.Handshake, IdleTimeout: values.Idle, MaxHeaderBytes: headBytes,
+		Handler: handler, ReadHeaderTimeout: values.Handshake, IdleTimeout: values.Idle, MaxHeaderBytes: headBytes,
 		ErrorLog:    log.New(lines{s.Log}, "", 0),
 		ConnContext: func(ctx context.Context, c net.Conn) context.Context { return context.WithValue(ctx, connection{}, c) },
 	}
 	ended := make(chan error, 1)
-	go func() { ended <- h.Serve(seenHeads{listener}) }()
+	go func() { ended <- h.Serve(listener) }()
 	select {
 	case err := <-ended:
 		return err
@@ -110,6 +116,10 @@ func (e *exchange) health() string {
 
 // route finds out whether a browser or git asks. What has the separator of pages in its path is none of git's.
 func (e *exchange) route() {
+	if e.r.URL.Path == pages.AccountPath {
+		e.account()
+		return
+	}
 	if place, isPage := pages.Parse(e.r.URL.Path); isPage {
 		e.page(place)
 		return

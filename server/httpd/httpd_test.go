@@ -84,7 +84,7 @@ func TestPasswordsThatWaitTooLong(t *testing.T) {
 		t.Fatal(err)
 	}
 	users.Patience = -1
-	s := &server{&site.Site{Limits: l, Access: users, Log: logs.New(io.Discard, metrics.New())}}
+	s := &server{&site.Site{Limits: l, Access: users, Log: logs.New(io.Discard, metrics.New())}, nil}
 	for _, path := range []string{"/acme/site", "/", "/acme/site.git/info/refs?service=git-upload-pack"} {
 		w, r := httptest.NewRecorder(), httptest.NewRequest("GET", path, nil)
 		r.SetBasicAuth("alice", "correct horse")

@@ -22,7 +22,7 @@ func TestLFSIsRefusedInItsWords(t *testing.T) {
 	if err != nil {
 		t.Fatal(err)
 	}
-	s := &server{&site.Site{Limits: l, Log: logs.New(io.Discard, metrics.New())}}
+	s := &server{&site.Site{Limits: l, Log: logs.New(io.Discard, metrics.New())}, nil}
 	for _, it := range []struct{ method, path string }{
 		{"POST", "/acme/site.git/info/lfs/objects/batch"}, {"POST", "/acme/site/info/lfs/objects/batch"}, {"POST", "/acme/site.git/info/lfs/locks/verify"},
 		{"GET", "/acme/site.git/info/lfs/locks?limit=1"}, {"PUT", "/acme/site.git/info/lfs/objects/" + strings.Repeat("a", 64)},

@@ -173,15 +173,16 @@ func (e *exchange) cloneURLs(user, tenant string) (overHTTP, overSSH string) {
 	return overHTTP, overSSH
 }
 
-// What a browser may do with an answer: a page may use the server's own style and icon; anything else may do nothing.
+// What a browser may do with an answer: a page may use the server's own style and icon, and that of an account send forms to the server; anything else
+// may do nothing.
 const (
 	pagePolicy = "default-src 'none'; style-src 'self'; img-src 'self'; base-uri 'none'; form-action 'none'; frame-ancestors 'none'"
+	formPolicy = "default-src 'none'; style-src 'self'; img-src 'self'; base-uri 'none'; form-action 'self'; frame-ancestors 'none'"
 	filePolicy = "default-src 'none'; base-uri 'none'; form-action 'none'; frame-ancestors 'none'; sandbox"
 )
 
-// send sends an answer, or that the browser has it already.
-func (e *exchange) send(a pages.Answer) {
-	h := e.w.Header()
+// setPolicies says what a browser may do with an answer, and for how long it may keep it.
+func setPolicies(h http.Header, a pages.Answer) {
 	h.Set("X-Content-Type-Options", "nosniff")
 	h.Set("Referrer-Policy", "no-referrer")
 	h.Set("Cross-Origin-Resource-Policy", "same-origin")
@@ -191,10 +192,22 @@ func (e *exchange) send(a pages.Answer) {
 	if a.IsPage {
 		h.Set("Content-Security-Policy", pagePolicy)
 	}
+	if a.HasForms {
+		// A browser says where a form comes from only where it may say where a link comes from.
+		h.Set("Content-Security-Policy", formPolicy)
+		h.Set("Referrer-Policy", "same-origin")
+		h.Set("Cache-Control", "no-store")
+	}
 	if a.IsStatic {
 		h.Set("Cache-Control", "public, max-age=31536000, immutable")
 		h.Del("Vary")
 	}
+}
+
+// send sends an answer, or that the browser has it already.
+func (e *exchange) send(a pages.Answer) {
+	h := e.w.Header()
+	setPolicies(h, a)
 	if a.Tag != "" {
 		h.Set("ETag", `"`+a.Tag+`"`)
 	}

@@ -60,12 +60,12 @@ func TestKeysOfTLSAreAgreedOnAnew(t *testing.T) {
 		tls.TLS_ECDHE_RSA_WITH_CHACHA20_POLY1305_SHA256: {byRSA, true},
 		tls.TLS_ECDHE_ECDSA_WITH_AES_256_GCM_SHA384:     {byCurve, true},
 	} {
-		server := TLS(func() *tls.Certificate { return its.certificate })
+		server := TLS(func(*tls.ClientHelloInfo) (*tls.Certificate, error) { return its.certificate, nil })
 		if shakesHands(server, &tls.Config{MaxVersion: tls.VersionTLS12, CipherSuites: []uint16{suite}}) != its.holds {
 			t.Errorf("%s: not %v", tls.CipherSuiteName(suite), its.holds)
 		}
 	}
-	server := TLS(func() *tls.Certificate { return byRSA })
+	server := TLS(func(*tls.ClientHelloInfo) (*tls.Certificate, error) { return byRSA, nil })
 	if shakesHands(server, &tls.Config{MinVersion: tls.VersionTLS10, MaxVersion: tls.VersionTLS11}) || !shakesHands(server, &tls.Config{MinVersion: tls.VersionTLS13}) {
 		t.Error("TLS 1.1 is spoken, or 1.3 is not")
 	}

@@ -1,7 +1,7 @@
 // Package limits bounds what clients may take: connections, time and bytes.
 //
-// The operator's file `limits` has lines `NAME VALUE`; `quota TENANT VALUE` for one tenant; and `daily-bytes USER VALUE` and `daily-child
-// USER VALUE` for one user. What it leaves out has its default. The command `gitpoold limits` changes it, and a running server reads it again when it has changed.
+// The operator's file `limits` has lines `NAME VALUE`; `quota TENANT VALUE` for one tenant; `daily-bytes USER VALUE` and `daily-child
+// USER VALUE` for one user; and `fsck.ID LEVEL` for one message of git-fsck(1). What it leaves out has its default. The command `gitpoold limits` changes it, and a running server reads it again when it has changed.
 package limits
 
 import (
@@ -15,6 +15,7 @@ import (
 
 	"gitpoold/access"
 	"gitpoold/daily"
+	"gitpoold/fsck"
 	"gitpoold/lists"
 )
 
@@ -292,6 +293,13 @@ type Values struct {
 	OwnedTenants                                   int
 	UserOwnedBytes                                 map[string]int64
 	UserOwnedTenants                               map[string]int
+	Mirror                                         time.Duration
+	MirrorBytes                                    int64
+	MirrorsAtOnce                                  int
+	// Fsck has the rules by which objects are refused that could be kept.
+	Fsck fsck.Rules
+	// levels has the levels of single messages, which Fsck has at the end of a file, whatever their lines' order.
+	levels [][2]string
 }
 
 // Watched gives a reader of which each Read has to end within Idle; else `stop` is called, which closes the connection that it reads

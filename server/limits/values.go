@@ -8,6 +8,7 @@ import (
 	"time"
 
 	"gitpoold/access"
+	"gitpoold/fsck"
 	"gitpoold/lists"
 	"gitpoold/tenants"
 )
@@ -86,6 +87,12 @@ var all = []limit{
 		span(func(v *Values) *time.Duration { return &v.Step })},
 	{"hook", "30s", "the time that a hook has for one push; then it is ended",
 		span(func(v *Values) *time.Duration { return &v.Hook })},
+	{"mirror", "1h", "the time that a mirror has for one run; then it is ended",
+		span(func(v *Values) *time.Duration { return &v.Mirror })},
+	{"mirror-bytes", "4G", "the bytes of the repository that a mirror has on the disk",
+		bytes(func(v *Values) *int64 { return &v.MirrorBytes })},
+	{"mirrors-at-once", "4", "mirrors that run at once; of these at most half failed the last time",
+		count(func(v *Values) *int { return &v.MirrorsAtOnce })},
 	{"request-bytes", "1G", "the bytes that one request may bring",
 		bytes(func(v *Values) *int64 { return &v.RequestBytes })},
 	{"quota", "1G", "the bytes that a tenant may have; 0 is no limit",
@@ -124,13 +131,20 @@ var all = []limit{
 		bytes(func(v *Values) *int64 { return &v.DiskReserve })},
 	{"frame-idle", "10m", "the time that a client of frames may be silent with a stream open",
 		span(func(v *Values) *time.Duration { return &v.FrameIdle })},
+	{fsckName, "hosting", "which objects are refused that git could keep: strict is as receive.fsckObjects of git, hosting lets in what old histories have, off all",
+		func(v *Values, word string) (err error) {
+			v.Fsck, err = fsck.Named(word)
+			return err
+		}},
 	{"child-memory", "0", "the bytes of its own that the child may take, without the pool file that it maps; 0 is no limit",
 		bytes(func(v *Values) *int64 { return &v.ChildMemory })},
 }
 
-// The limits that a tenant, or a user, may have of its own.
+// The limits that a tenant, or a user, may have of its own, and those of the messages of git-fsck(1).
 const (
 	quotaName       = "quota"
+	fsckName        = "fsck"
+	fsckFront       = "fsck."
 	userBytesName   = "user-bytes"
 	userTenantsName = "user-tenants"
 	dailyBytesName  = "daily-bytes"
@@ -180,7 +194,19 @@ func read(path string) (Values, error) {
 			return v, fmt.Errorf("%s: %w", path, err)
 		}
 	}
+	for _, it := range v.levels {
+		v.Fsck, _ = v.Fsck.With(it[0], it[1])
+	}
 	return v, err
+}
+
+// takeLevel takes the level of one message of git-fsck(1).
+func (v *Values) takeLevel(id, level string) error {
+	_, err := v.Fsck.With(id, level)
+	if err == nil {
+		v.levels = append(v.levels, [2]string{id, level})
+	}
+	return err
 }
 
 // take takes one line of the file.
@@ -190,6 +216,9 @@ func (v *Values) take(words []string) error {
 	}
 	if len(words) != 2 {
 		return fmt.Errorf("`%s` is no line NAME VALUE", strings.Join(words, " "))
+	}
+	if id, isMessage := strings.CutPrefix(words[0], fsckFront); isMessage {
+		return v.takeLevel(id, words[1])
 	}
 	it, err := find(words[0])
 	if err != nil {
@@ -244,9 +273,12 @@ func Rows(path string) ([]Row, error) {
 	said := map[string]string{}
 	var own []Row
 	for _, words := range lines {
-		if len(words) == 2 {
+		switch {
+		case len(words) == 2 && strings.HasPrefix(words[0], fsckFront):
+			own = append(own, Row{Name: words[0], Value: words[1], About: "the level of one message of git-fsck(1)"})
+		case len(words) == 2:
 			said[words[0]] = words[1]
-		} else if len(words) == 3 {
+		case len(words) == 3:
 			own = append(own, Row{Name: words[0] + " " + words[1], Value: words[2], About: "of its own"})
 		}
 	}
@@ -266,7 +298,7 @@ func Rows(path string) ([]Row, error) {
 func Set(path string, words ...string) error {
 	v := Defaults()
 	name, value := words[:len(words)-1], words[len(words)-1]
-	if _, err := find(name[0]); err != nil {
+	if _, err := find(name[0]); err != nil && !strings.HasPrefix(name[0], fsckFront) {
 		return err
 	}
 	if value != "default" {

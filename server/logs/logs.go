@@ -83,6 +83,21 @@ func (l *Log) Operator(o Operator) {
 	l.line("operator", words)
 }
 
+// Account is what a user changed of the own account, by what login, and from where.
+type Account struct {
+	Address, Login, What string
+	Err                  error
+}
+
+// Account writes the line of what a user changed of the own account.
+func (l *Log) Account(a Account) {
+	words := []string{"address", a.Address, "login", a.Login, "what", a.What}
+	if a.Err != nil {
+		words = append(words, "error", a.Err.Error())
+	}
+	l.line("account", words)
+}
+
 // Printf writes a line for the operator.
 func (l *Log) Printf(format string, values ...any) {
 	l.line("note", []string{"text", fmt.Sprintf(format, values...)})

@@ -10,6 +10,7 @@ import (
 	"strings"
 	"testing"
 
+	"gitpoold/fsck"
 	"gitpoold/objects"
 	"gitpoold/pack"
 	"gitpoold/tenants"
@@ -53,32 +54,31 @@ func (s sample) object() tenants.Object {
 	return tenants.Object{Name: pack.NameOf(kinds[s.Kind], contents), Kind: kinds[s.Kind], Contents: contents}
 }
 
+var strict = fsck.Strict()
+
 // judge gives the refusal of what a tenant cannot keep, and of what fsck finds.
 func (s sample) judge() (kept, suspect error) {
 	o := s.object()
 	switch s.Kind {
 	case "commit":
-		c, err := objects.ReadCommit(o.Name, o.Contents)
-		if err != nil {
+		if _, err := objects.ReadCommit(o.Name, o.Contents); err != nil {
 			return err, nil
 		}
-		return nil, objects.FsckCommit(o.Name, c, o.Contents)
+		return nil, objects.Judged(o.Name, strict.Commit(o.Contents))
 	case "tag":
-		tag, err := objects.ReadTag(o.Name, o.Contents)
-		if err != nil {
+		if _, err := objects.ReadTag(o.Name, o.Contents); err != nil {
 			return err, nil
 		}
-		return nil, objects.FsckTag(o.Name, tag, o.Contents)
+		return nil, objects.Judged(o.Name, strict.Tag(o.Contents, objects.IsRefName))
 	case "tree":
-		facts, err := objects.ExamineTree(o.Name, o.Contents, func(tenants.Name, objects.Special) {})
-		if err != nil {
+		if _, err := objects.ExamineTree(o.Name, o.Contents); err != nil {
 			return err, nil
 		}
-		return nil, facts.Suspect
+		return nil, objects.Judged(o.Name, strict.Tree(o.Contents, func(tenants.Name, fsck.Special) {}))
 	case "modules":
-		return nil, objects.FsckSpecial(o, objects.Modules)
+		return nil, objects.Judged(o.Name, strict.Special(o, fsck.Modules))
 	case "attributes":
-		return nil, objects.FsckSpecial(o, objects.Attributes)
+		return nil, objects.Judged(o.Name, strict.Special(o, fsck.Attributes))
 	}
 	return objects.CheckRef(string(o.Contents)), nil
 }

@@ -1,9 +1,9 @@
-// Package objects says what of Git's objects a tenant can keep, and what a careful server refuses.
+// Package objects says what of Git's objects a tenant can keep.
 //
 // A tenant's objects come from streams of git-fast-import(1), so a commit has a tree, parents, an author, a committer and perhaps an
 // encoding, a tree has files at paths, and a tag names a commit, a blob or another tag. Here a commit, a tree or a tag is read from
-// Git's bytes, and whatever would not come back as the same bytes is refused in a sentence. What receive.fsckObjects of
-// git-config(1) refuses is refused by the calls whose names begin with Fsck.
+// Git's bytes, and whatever would not come back as the same bytes is refused in a sentence. The package fsck says what a careful server refuses of
+// the rest.
 package objects
 
 import (

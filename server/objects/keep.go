@@ -76,7 +76,7 @@ func headers(contents []byte) (lines []header, message []byte, whole bool) {
 }
 
 func checkIdent(kind string, name tenants.Name, h header) error {
-	if !isIdent(h.value) {
+	if !IsIdent(h.value) {
 		return refuse("%s %s has a malformed %s line, which gitpool does not keep: %s", kind, short(name), h.word, shown(h.value))
 	}
 	if len(h.word)+1+len(h.value) > longestLine {
@@ -85,8 +85,8 @@ func checkIdent(kind string, name tenants.Name, h header) error {
 	return nil
 }
 
-// isIdent tells whether bytes are a name, a space, an address between < and >, a space, seconds below 2^64, a space, and a time zone.
-func isIdent(ident []byte) bool {
+// IsIdent tells whether bytes are a name, a space, an address between < and >, a space, seconds below 2^64, a space, and a time zone.
+func IsIdent(ident []byte) bool {
 	name, rest, hasAddress := bytes.Cut(ident, []byte(" <"))
 	address, date, hasDate := bytes.Cut(rest, []byte("> "))
 	if !hasAddress || !hasDate || bytes.ContainsAny(name, "<>\n") || bytes.ContainsAny(address, "<>\n") {
@@ -263,17 +263,15 @@ func (t *Tag) check(name tenants.Name, lines []header) error {
 	return checkMessage("tag", name, t.Message)
 }
 
-// TreeFacts is what a look at each entry of a tree finds: how many there are, whether a directory is among them, and the *Refusal of what
-// git's fsck finds in a tree that a tenant could keep.
+// TreeFacts is what a look at each entry of a tree finds: how many there are, and whether a directory is among them.
 type TreeFacts struct {
 	Entries  int
 	HasTrees bool
-	Suspect  error
 }
 
 // ExamineTree looks at each entry of a tree. The error is a *Refusal where a tenant cannot keep the tree as it is: where it is not the one
-// tree of its files. It calls found with the name of each blob that git reads by itself, .gitmodules or .gitattributes in any disguise.
-func ExamineTree(name tenants.Name, contents []byte, found func(tenants.Name, Special)) (facts TreeFacts, err error) {
+// tree of its files.
+func ExamineTree(name tenants.Name, contents []byte) (facts TreeFacts, err error) {
 	var before Entry
 	files := map[string]bool{}
 	entry, rest, ok := NextEntry(contents)
@@ -287,9 +285,6 @@ func ExamineTree(name tenants.Name, contents []byte, found func(tenants.Name, Sp
 		}
 		if err := checkTwice(name, entry, files, next, hasNext); err != nil {
 			return facts, err
-		}
-		if facts.Suspect == nil {
-			facts.Suspect = fsckEntry(name, entry, found)
 		}
 		facts.Entries++
 		facts.HasTrees = facts.HasTrees || entry.IsTree()
@@ -335,7 +330,7 @@ func CheckRef(ref string) error {
 	if !strings.HasPrefix(ref, "refs/") || strings.HasPrefix(ref, "refs/namespaces/") {
 		return refuse("%s is no name for a ref: it begins with refs/, and not with refs/namespaces/", shown([]byte(ref)))
 	}
-	if refForbidden.Match(latin([]byte(ref))) {
+	if !IsRefName(ref) {
 		return refuse("%s is no name for a ref", shown([]byte(ref)))
 	}
 	return nil

@@ -7,7 +7,7 @@ import (
 	"testing"
 )
 
-// identForm says as an expression what isIdent reads.
+// identForm says as an expression what IsIdent reads.
 var identForm = regexp.MustCompile(`(?s)\A(?:[^<>\n]* )?<[^<>\n]*> ([0-9]{1,20}) [+-][0-9]{4}\z`)
 
 func isIdentByForm(ident []byte) bool {
@@ -32,10 +32,10 @@ func TestIdents(t *testing.T) {
 			end := at + random.Intn(len(ident)-at+1)/4
 			ident = append(append(append([]byte{}, ident[:at]...), piece[:random.Intn(2)]...), ident[end:]...)
 		}
-		if isIdent(ident) != isIdentByForm(ident) {
-			t.Fatalf("%q is an ident: %v", ident, isIdent(ident))
+		if IsIdent(ident) != isIdentByForm(ident) {
+			t.Fatalf("%q is an ident: %v", ident, IsIdent(ident))
 		}
-		if isIdent(ident) {
+		if IsIdent(ident) {
 			good++
 		}
 	}

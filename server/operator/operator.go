@@ -22,6 +22,7 @@ import (
 	"gitpoold/site"
 	"gitpoold/store"
 	"gitpoold/tenants"
+	"gitpoold/webhooks"
 )
 
 // Door is a server's socket.
@@ -139,7 +140,7 @@ func saidBy(words []string) string {
 	if len(words) > 2 && words[0] == changedCommand {
 		words = words[2:]
 	}
-	return strings.Join(words, " ")
+	return webhooks.ShownLine(strings.Join(words, " "))
 }
 
 func (d *Door) command(ctx context.Context, words []string) (string, error) {
@@ -158,6 +159,9 @@ func (d *Door) command(ctx context.Context, words []string) (string, error) {
 		"compact":      {1, d.compact},
 		"move":         {2, d.move},
 		"head":         {2, d.head},
+		"webhook":      {2, d.webhook},
+		"mirror":       {anyWords, d.mirror},
+		"push-mirror":  {anyWords, d.mirror},
 		changedCommand: {anyWords, d.changed},
 	}
 	it, found := known[words[0]]
@@ -220,16 +224,14 @@ const countWithin = 5 * time.Minute
 func (d *Door) head(ctx context.Context, words []string) (string, error) {
 	name, ref := words[1], words[2]
 	if !strings.HasPrefix(ref, "refs/") {
-		ref = branches + ref
+		ref = tenants.Branches + ref
 	}
 	return "", d.ofKnown(name, func() error {
 		return d.operate(ctx, words, []string{name}, func() error { return d.setHead(ctx, name, ref) })
 	})
 }
 
-const branches = "refs/heads/"
-
-// setHead does so by a stream, as a user can.
+// setHead does so.
 func (d *Door) setHead(ctx context.Context, name, ref string) error {
 	tenant, err := d.site.Pool.Tenant(name)
 	if err != nil {
@@ -237,15 +239,7 @@ func (d *Door) setHead(ctx context.Context, name, ref string) error {
 	}
 	soon, stop := context.WithTimeout(ctx, openPatience)
 	defer stop()
-	return tenant.Push(soon, func(refs tenants.Refs) error {
-		if !strings.HasPrefix(ref, branches) || refs.Target(ref) == (tenants.Name{}) {
-			return fmt.Errorf("%s has no branch %s", name, ref)
-		}
-		return nil
-	}, func(s *tenants.Stream) error {
-		_, err := s.WriteString("option gitpool head " + ref + "\n")
-		return err
-	})
+	return tenant.SetHead(soon, ref)
 }
 
 // ofKnown does something to a tenant that has something. Frames are answered as the program answers them, to which each tenant is an empty one at
@@ -271,6 +265,7 @@ func (d *Door) copyTenant(ctx context.Context, from, to string) error {
 func (d *Door) removeTenant(ctx context.Context, name string) error {
 	return d.operate(ctx, []string{"remove", name}, []string{name}, d.alone(name, func() error {
 		err := d.store.Remove(ctx, name)
+		d.site.Views.Forget(name)
 		if err == nil && d.site.Owners != nil {
 			err = d.site.Owners.Forget(name)
 		}
@@ -377,18 +372,25 @@ func (d *Door) status(context.Context, []string) (string, error) {
 	if d.store.IsReplica() {
 		d.tellReplica(line)
 	}
-	line("saves", state.Saves)
-	line("failed-saves", state.FailedSaves)
-	line("last-save", when(state.LastSave))
-	line("children-replaced", state.Recoveries)
+	tellSaves(line, state)
 	tellEnds(line, states)
 	for _, err := range d.site.Unread() {
 		line("list-unread", err)
 	}
+	d.tellHooks(line)
+	d.tellMirrors(line)
 	if len(states) > 1 {
 		tellShards(&text, states)
 	}
 	return text.String(), nil
+}
+
+// tellSaves tells of saves, and of children that took the place of others.
+func tellSaves(line func(name string, value any), state store.State) {
+	line("saves", state.Saves)
+	line("failed-saves", state.FailedSaves)
+	line("last-save", when(state.LastSave))
+	line("children-replaced", state.Recoveries)
 }
 
 // tellReplica has the lines of a server that follows another one.

@@ -60,6 +60,7 @@ type Answer struct {
 	Tag      string // its ETag, without quotes, or ""
 	Location string // of a redirection
 	IsPage   bool   // it may use the server's style
+	HasForms bool   // it may send forms to the server, and is kept nowhere
 	IsStatic bool   // it never changes
 	Err      error  // the server's own trouble, for its log
 }
@@ -184,9 +185,9 @@ type link struct{ URL, Text string }
 // layout is what the template of all pages shows.
 type layout struct {
 	frame
-	Style, Icon, User, SignIn, Tenant, HomeURL string
-	Tabs                                       []tab
-	Page                                       any
+	Style, Icon, User, SignIn, Tenant, HomeURL, Account string
+	Tabs                                                []tab
+	Page                                                any
 }
 
 type tab struct {
@@ -194,7 +195,7 @@ type tab struct {
 	IsHere bool
 }
 
-var templates = parse("tenants", "home", "refs", "log", "commit", "tree", "blob", "refusal")
+var templates = parse("tenants", "home", "refs", "log", "commit", "tree", "blob", "refusal", "account")
 
 func parse(names ...string) map[string]*template.Template {
 	all := map[string]*template.Template{}
@@ -207,7 +208,8 @@ func parse(names ...string) map[string]*template.Template {
 
 // page makes a page from a template.
 func (v Visit) page(name string, f frame, page any) (Answer, error) {
-	l := layout{frame: f, Style: Place{Kind: Style}.URL(), Icon: Place{Kind: Icon}.URL(), User: v.User, Page: page}
+	l := layout{frame: f, Style: Place{Kind: Style}.URL(), Icon: Place{Kind: Icon}.URL(), User: v.User, Page: page,
+		Account: AccountPath}
 	if v.Place.Tenant != "" {
 		home := v.Place.At(Home, "", "")
 		l.Tenant, l.HomeURL = v.Place.Tenant, home.URL()

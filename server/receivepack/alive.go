@@ -22,6 +22,14 @@ func (p *push) keepAlive() (end func()) {
 	}
 }
 
+// write lets one goroutine at a time write to the client, and sends what it wrote.
+func (p *push) write(do func()) {
+	p.saying.Lock()
+	defer p.saying.Unlock()
+	do()
+	_ = p.out.Flush()
+}
+
 func (p *push) sayAlive(over <-chan struct{}) {
 	ticker := time.NewTicker(aliveEvery)
 	defer ticker.Stop()
@@ -30,8 +38,7 @@ func (p *push) sayAlive(over <-chan struct{}) {
 		case <-over:
 			return
 		case <-ticker.C:
-			_, _ = p.out.Raw([]byte("0005\x01"))
-			_ = p.out.Flush()
+			p.write(func() { _, _ = p.out.Raw([]byte("0005\x01")) })
 		}
 	}
 }

@@ -5,6 +5,7 @@ import (
 	"errors"
 	"strings"
 
+	"gitpoold/fsck"
 	"gitpoold/objects"
 	"gitpoold/tenants"
 )
@@ -51,8 +52,8 @@ func (p *push) examineBlobs(context.Context) error {
 func (p *push) examineCommits(ctx context.Context) error {
 	return p.each(ctx, tenants.Commit, func(_ int, o tenants.Object) error {
 		c, err := objects.ReadCommit(o.Name, o.Contents)
-		if err == nil && !p.AllowsSuspect {
-			err = objects.FsckCommit(o.Name, c, o.Contents)
+		if err == nil {
+			err = objects.Judged(o.Name, p.Rules.Commit(o.Contents))
 		}
 		if err == nil {
 			p.heads[o.Name] = c.Head
@@ -64,8 +65,8 @@ func (p *push) examineCommits(ctx context.Context) error {
 func (p *push) examineTags(ctx context.Context) error {
 	return p.each(ctx, tenants.Tag, func(_ int, o tenants.Object) error {
 		tag, err := objects.ReadTag(o.Name, o.Contents)
-		if err == nil && !p.AllowsSuspect {
-			err = objects.FsckTag(o.Name, tag, o.Contents)
+		if err == nil {
+			err = objects.Judged(o.Name, p.Rules.Tag(o.Contents, objects.IsRefName))
 		}
 		if err == nil {
 			p.tags[o.Name] = nameplate(tag)
@@ -80,12 +81,12 @@ func nameplate(tag *objects.Tag) *objects.Tag {
 }
 
 func (p *push) examineTrees(ctx context.Context) error {
-	special := map[tenants.Name]objects.Special{}
+	special := map[tenants.Name]fsck.Special{}
 	below := make([]unfolded, p.own.Len())
 	err := p.each(ctx, tenants.Tree, func(at int, o tenants.Object) error {
-		facts, err := objects.ExamineTree(o.Name, o.Contents, func(blob tenants.Name, what objects.Special) { special[blob] |= what })
-		if err == nil && !p.AllowsSuspect {
-			err = facts.Suspect
+		facts, err := objects.ExamineTree(o.Name, o.Contents)
+		if err == nil {
+			err = objects.Judged(o.Name, p.Rules.Tree(o.Contents, func(blob tenants.Name, what fsck.Special) { special[blob] |= what }))
 		}
 		if !facts.HasTrees {
 			below[at] = unfoldedFiles(facts.Entries, len(o.Contents))
@@ -95,21 +96,21 @@ func (p *push) examineTrees(ctx context.Context) error {
 	if err == nil {
 		err = p.countFiles(below)
 	}
-	if err != nil || p.AllowsSuspect {
+	if err != nil {
 		return err
 	}
 	return p.examineSpecial(ctx, special)
 }
 
 // examineSpecial judges the blobs that git reads by itself.
-func (p *push) examineSpecial(ctx context.Context, special map[tenants.Name]objects.Special) error {
+func (p *push) examineSpecial(ctx context.Context, special map[tenants.Name]fsck.Special) error {
 	for name, what := range special {
 		o, err := p.own.Object(ctx, name)
 		if errors.Is(err, tenants.ErrMissing) {
 			continue
 		}
 		if err == nil {
-			err = objects.FsckSpecial(o, what)
+			err = objects.Judged(o.Name, p.Rules.Special(o, what))
 		}
 		if err != nil {
 			return err
@@ -125,6 +126,9 @@ func (p *push) examineRefs(ctx context.Context) error {
 		err := checkRef(change)
 		if err == nil && !change.New.IsZero() {
 			err = p.examineTarget(ctx, change)
+		}
+		if err == nil && p.Protects != nil {
+			err = p.protects(ctx, change)
 		}
 		var refused *objects.Refusal
 		if errors.As(err, &refused) {

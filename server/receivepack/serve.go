@@ -7,24 +7,31 @@ import (
 	"fmt"
 	"io"
 	"strings"
+	"sync"
 
+	"gitpoold/fsck"
 	"gitpoold/objects"
 	"gitpoold/pack"
 	"gitpoold/pktline"
+	"gitpoold/protect"
 	"gitpoold/tenants"
 	"gitpoold/uploadpack"
 )
 
 // Server has what an operator may set.
 type Server struct {
-	Folder        string // for temporary files
-	Limits        pack.Limits
-	AllowsSuspect bool // takes objects that receive.fsckObjects of git-config(1) refuses
+	Folder string // for temporary files
+	Limits pack.Limits
+	Rules  fsck.Rules // which objects are refused that could be kept
 	// Lines counts the bytes of refs and options while a push has them; nil counts nothing.
 	Lines pktline.Budget
 	// EndsItself tells that the request ends whatever the client is told: over http, where the answer comes after the request. Else the client may
 	// keep its side open until it has read the report.
 	EndsItself bool
+	// Protects says why a ref may not change so, or nothing; it may be nil.
+	Protects func(protect.Change) (why string, err error)
+	// Judge lets hooks say of each change of a push, which has come whole, why it may not be made, or nothing; it may be nil.
+	Judge func(context.Context, Pushed) (reasons []string, err error)
 	// Lasts is told what a push has changed once that lasts, before another push of the tenant begins; it may be nil.
 	Lasts func(Result)
 }
@@ -97,9 +104,10 @@ type push struct {
 	standing
 	head string // what HEAD is to name, or nothing
 
-	isRead bool   // whether the pack has been read to its end
-	hint   string // what a user can do
-	failed error  // why all refs were refused
+	saying sync.Mutex // is held by who writes to the client while the push waits
+	isRead bool       // whether the pack has been read to its end
+	hint   string     // what a user can do
+	failed error      // why all refs were refused
 }
 
 func newPush(s Server, t tenants.Tenant, q *request) *push {
@@ -125,6 +133,9 @@ func (p *push) carryOut(ctx context.Context, in io.Reader) error {
 	}
 	defer p.keepAlive()()
 	if err := p.examine(ctx); err != nil {
+		return err
+	}
+	if err := p.askHooks(ctx); err != nil {
 		return err
 	}
 	err = p.attempt(ctx)

@@ -11,6 +11,8 @@ from served import ServerRoom, over_http
 from strangers import by_ssh
 from streams_over_ssh import said
 
+# How git names what it finds in an object, in front of its sentence.
+FSCK = re.compile(rb"object [0-9a-f]{40}: [a-zA-Z0-9]+: ")
 WHO = b"committer a <a@b> 1 +0000\n"
 FILES, COMMITS, QUOTA = 20_000, 300, 10 << 20
 
@@ -168,7 +170,7 @@ def is_pushed(room: ServerRoom, at: int, stream: bytes) -> bool:
     """Whether a push of what git makes of a stream is taken."""
     site = room.imported(f"judged-{at}", stream)
     done = room.run(["git", "push", "-q", "--mirror", room.url(f"pushed/{at}")], site)
-    assert done.returncode == 0 or b"which is not taken here" in done.stderr, done
+    assert done.returncode == 0 or FSCK.search(done.stderr), done
     return done.returncode == 0
 
 

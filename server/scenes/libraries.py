@@ -152,7 +152,7 @@ def refusals(room: ServerRoom, client: Library) -> None:
     site = "site"
     blob = bytes.fromhex(room.name(site, "main:index.html"))
     commit_of(room, site, stored(room, site, "tree", b"100644 .git\0" + blob))
-    client.is_refused(site, "refs/heads/bad:refs/heads/bad", says="take for .git")
+    client.is_refused(site, "refs/heads/bad:refs/heads/bad", says="hasDotgit")
     room.git(site, "update-ref", "-d", "refs/heads/bad")
     client.is_refused(site, "refs/tags/v1:refs/tags/other", says="kept under its own name alone, refs/tags/v1")
     room.commit(site, "After it")

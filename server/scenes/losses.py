@@ -11,7 +11,7 @@ from typing import Callable, List
 from keeping import crashed
 from served import ServerRoom, over_http, text
 
-LISTS = ("access", "groups", "tokens", "passwords", "keys", "limits", "hooks", "owners", "blocked")
+LISTS = ("access", "groups", "tokens", "passwords", "keys", "limits", "hooks", "owners", "blocked", "protected")
 
 
 def contents(path: str) -> bytes:

@@ -166,6 +166,8 @@ def a_push_that_is_cut(room: ServerRoom) -> None:
         os.killpg(process.pid, signal.SIGKILL)
         process.wait()
         assert room.tenant_refs()["refs/heads/main"] in (before["refs/heads/main"], room.name(site, "main"))
+    # One that was killed right after its last byte may come through just now, and this one is refused then.
+    room.run(["git", "push", "-q", "pool", "main"], site)
     room.git(site, "push", "-q", "pool", "main")
     room.same(site)
 

@@ -3,7 +3,7 @@ from __future__ import annotations
 
 import json
 import os
-from typing import List
+from typing import Dict, List, Tuple
 
 from served import TOP, ServerRoom, once, over_http, scene, text
 
@@ -75,24 +75,58 @@ def what_git_fsck_refuses(room: ServerRoom) -> None:
     room.git(bare, "config", "receive.fsckObjects", "true")
     blob = bytes.fromhex(room.name(site, "main:index.html"))
     modules = room.git(site, "hash-object", "-w", "--stdin", data=b'[submodule "../x"]\n\turl = -x\n').decode().strip()
-    for tree, says in ((b"100644 .git\0" + blob, "take for .git"), (b"100644 .GIT\0" + blob, "take for .git"),
-                       (b"100644 git~1\0" + blob, "take for .git"),
-                       (b"100644 .g\xe2\x80\x8cit\0" + blob, "take for .git"),
-                       (b"120000 .gitmodules\0" + blob, "as a symbolic link"),
-                       (b"100644 .gitmodules\0" + bytes.fromhex(modules), "the submodule name `../x`")):
+    for tree, says in ((b"100644 .git\0" + blob, "hasDotgit: contains '.git'"), (b"100644 .GIT\0" + blob, "hasDotgit: contains '.git'"),
+                       (b"100644 git~1\0" + blob, "hasDotgit: contains '.git'"),
+                       (b"100644 .g\xe2\x80\x8cit\0" + blob, "hasDotgit: contains '.git'"),
+                       (b"120000 .gitmodules\0" + blob, "gitmodulesSymlink"),
+                       (b"100644 .gitmodules\0" + bytes.fromhex(modules), "gitmodulesName: disallowed submodule name: ../x")):
         commit_of(room, site, stored(room, site, "tree", tree))
         refused(room, site, "refs/heads/bad", says=says)
         room.fails(site, "push", room.path(bare), "refs/heads/bad", says="")
-    for who in (b"A <a@b> 01 +0000", b"A <a@b> 9223372036854775808 +0000", b"A\0 <a@b> 1 +0000"):
+    for who, says in ((b"A <a@b> 01 +0000", "zeroPaddedDate"), (b"A <a@b> 9223372036854775808 +0000", "badDateOverflow"), (b"A\0 <a@b> 1 +0000", "nulInHeader")):
         commit_of(room, site, room.name(site, "main^{tree}"), b"author %b\ncommitter A <a@b> 1 +0000\n" % who)
-        refused(room, site, "refs/heads/bad", says="which is not taken here")
+        refused(room, site, "refs/heads/bad", says=says)
         room.fails(site, "push", room.path(bare), "refs/heads/bad", says="")
+
+
+@once
+def levels_of_fsck(room: ServerRoom) -> None:
+    """The operator chooses what is refused: `fsck strict`, `hosting` or `off`, and the level of one message, as receive.fsck.<msg-id> does for git."""
+    site = room.pushed()
+    bare = room.bare("levels", site)
+    room.git(bare, "config", "receive.fsckObjects", "true")
+    tree = room.name(site, "main^{tree}")
+    people = b"author A <a@b> 1 +0000\ncommitter A <a@b> 1 +0000\n"
+    padded = people.replace(b" 1 +", b" 01 +")
+    settings: List[Tuple[List[str], Dict[str, bool]]] = [
+        (["fsck", "strict"], {"nulInCommit": False, "zeroPaddedDate": False}),
+        (["fsck", "default"], {"nulInCommit": True, "zeroPaddedDate": False}),
+        (["fsck.zeroPaddedDate", "warn"], {"nulInCommit": True, "zeroPaddedDate": True}),
+        (["fsck.nulInCommit", "error"], {"nulInCommit": False, "zeroPaddedDate": True}),
+        (["fsck", "off"], {"nulInCommit": False, "zeroPaddedDate": True}),
+        (["fsck.nulInCommit", "default"], {"nulInCommit": True, "zeroPaddedDate": True}),
+    ]
+    for at, (setting, taken) in enumerate(settings):
+        room.serverd("limits", room.served, *setting)
+        for message, is_taken in taken.items():
+            contents = b"tree %b\n%b\nm%d" % (tree.encode(), padded if message == "zeroPaddedDate" else people, at)
+            made = stored(room, site, "commit", contents + (b"\0" if message == "nulInCommit" else b""))
+            room.git(bare, "config", f"receive.fsck.{message}", "warn" if is_taken else "error")
+            if is_taken:
+                room.git(site, "push", "-q", room.url(), f"{made}:refs/heads/{message}-{at}")
+                room.git(site, "push", "-q", room.path(bare), f"{made}:refs/heads/{message}-{at}")
+            else:
+                room.fails(site, "push", room.url(), f"{made}:refs/heads/refused", says=f"object {made}: {message}")
+                room.fails(site, "push", room.path(bare), f"{made}:refs/heads/refused", says=message)
+    for word in ("fsck.noSuchMessage", "fsck.nulInHeader"):
+        assert room.run([room.server_program, "limits", room.served, word, "ignore"]).returncode == 1, word
 
 
 @over_http
 def the_corpus(room: ServerRoom) -> None:
-    """Each commit, tag and tree of the corpus that is refused or suspect is refused in a push too."""
+    """Each commit, tag and tree of the corpus that is refused or suspect is refused in a push too, by the rules of receive.fsckObjects."""
     site = room.pushed()
+    room.serverd("limits", room.served, "fsck", "strict")
     before = room.tenant_refs()
     with open(os.path.join(TOP, "clients", "tests", "objects.json"), encoding="ascii") as file:
         samples = [it for it in json.load(file) if it["kind"] in ("commit", "tree") and ("refused" in it or it.get("suspect"))]

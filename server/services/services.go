@@ -10,10 +10,10 @@ import (
 	"gitpoold/access"
 	"gitpoold/child"
 	"gitpoold/daily"
-	"gitpoold/hooks"
 	"gitpoold/limits"
 	"gitpoold/pack"
 	"gitpoold/pktline"
+	"gitpoold/protect"
 	"gitpoold/receivepack"
 	"gitpoold/site"
 	"gitpoold/tenants"
@@ -89,7 +89,8 @@ func (u Use) Serve(ctx context.Context, isStateless bool) error {
 	most := pack.Usual
 	most.MayGrow = u.mayGrow(spool)
 	most.PackBytes = u.Site.Limits.Get().RequestBytes
-	server := receivepack.Server{Folder: u.Site.Work, Limits: most, Lines: held, EndsItself: isStateless, Lasts: u.tell}
+	server := receivepack.Server{Folder: u.Site.Work, Limits: most, Rules: u.Site.Limits.Get().Fsck, Lines: held, EndsItself: isStateless, Lasts: u.tell,
+		Judge: u.judge(), Protects: func(c protect.Change) (string, error) { return u.Site.Protects(u.User, u.Tenant.Name(), c) }}
 	result, err := server.Serve(ctx, u.Tenant, in, u.Out)
 	if result.Failed != nil {
 		u.Site.Log.Printf("a push by %q to %s failed: %v", u.User, u.Tenant.Name(), result.Failed)
@@ -153,11 +154,7 @@ func (r *refusing) Read(into []byte) (int, error) {
 
 // tell tells the log and the hooks what a push changed.
 func (u Use) tell(result receivepack.Result) {
-	push := hooks.Push{Tenant: u.Tenant.Name(), User: u.User, Options: result.Options}
-	for _, it := range result.Changes {
-		push.Changes = append(push.Changes, hooks.Change{Ref: it.Ref, Old: it.Old.String(), New: it.New.String()})
-	}
-	u.Site.Changed(u.Address, push)
+	u.Site.Changed(u.Address, u.pushOf(result.Changes, result.Options))
 }
 
 // Counting counts the bytes that pass.

@@ -14,6 +14,8 @@ import (
 	"gitpoold/logs"
 	"gitpoold/metrics"
 	"gitpoold/owners"
+	"gitpoold/protect"
+	"gitpoold/quarantine"
 	"gitpoold/tenants"
 )
 
@@ -24,6 +26,13 @@ var (
 	// ErrReadOnly is the answer to a push by who may only read.
 	ErrReadOnly = errors.New("you may read this repository, and not push to it")
 )
+
+// Mirrored is the answer to a push to a tenant that is pulled from another host.
+type Mirrored struct{ URL string }
+
+func (m Mirrored) Error() string {
+	return "this repository is a mirror of " + m.URL + " and takes no pushes; push there"
+}
 
 // Site is one server's.
 type Site struct {
@@ -38,6 +47,12 @@ type Site struct {
 	Daily *daily.Ledger
 	// Hooks are told of pushes; nil has none.
 	Hooks *hooks.Hooks
+	// Protected has the refs that may not change in every way; nil has none.
+	Protected *protect.Protected
+	// Views lets hooks that judge pushes read them by git; nil where no hook does.
+	Views *quarantine.Views
+	// Mirrors are tenants that are the same as repositories elsewhere; nil has none.
+	Mirrors Mirrors
 	// Work is a folder for files that requests need while they last; the server empties it when it starts. Where it is "", they go to
 	// the system's place for such files.
 	Work string
@@ -51,6 +66,21 @@ type Site struct {
 	Folder string
 	// Markdown writes a README for pages; nil shows it as text.
 	Markdown func(contents []byte, resolve func(path, fragment string, isImage bool) string) (string, error)
+}
+
+// Mirrors are what the package mirrors keeps.
+type Mirrors interface {
+	// Refuses is the sentence for who pushes to a tenant that is pulled from elsewhere, and nil for other tenants.
+	Refuses(tenant string) error
+	// Pushed is told of each tenant in which a ref has changed. It waits for nothing.
+	Pushed(tenant string)
+	// Run runs the mirrors of a tenant of one kind, and says what became of them.
+	Run(ctx context.Context, kind, tenant string, mayDelete bool) (string, error)
+	// Count is how many there are, and Failing has a line for each whose last run did not go well.
+	Count() int
+	Failing() []string
+	// Unread says why their list cannot be read.
+	Unread() error
 }
 
 // Open gives a tenant to a user who wants this right to it; the user "" is a visitor without a password. What it answers depends on
@@ -75,6 +105,11 @@ func (s *Site) Open(user, tenant string, right access.Right) (tenants.Tenant, er
 	}
 	if right == access.Write && s.Elsewhere != nil {
 		if err := s.Elsewhere(); err != nil {
+			return tenants.Tenant{}, err
+		}
+	}
+	if right == access.Write && s.Mirrors != nil {
+		if err := s.Mirrors.Refuses(tenant); err != nil {
 			return tenants.Tenant{}, err
 		}
 	}
@@ -108,12 +143,18 @@ func (s *Site) Watch(ctx context.Context, user, tenant string, right access.Righ
 	return watched, stop
 }
 
-// Read reads the lists of the operator again that belong to one of these: access, limits or hooks. The error says why they cannot be read, so that
+// Read reads the lists of the operator again that belong to one of these: access, limits, hooks, protected or mirrors. The error says why they cannot be read, so that
 // what was read before holds.
 func (s *Site) Read(list string) error {
 	of := map[string]interface{ Unread() error }{"access": s.Access, "limits": s.Limits}
 	if s.Hooks != nil {
 		of["hooks"] = s.Hooks
+	}
+	if s.Protected != nil {
+		of[protect.FileName] = s.Protected
+	}
+	if s.Mirrors != nil {
+		of["mirrors"] = s.Mirrors
 	}
 	it, has := of[list]
 	if !has {
@@ -128,6 +169,12 @@ func (s *Site) Unread() (all []error) {
 	if s.Hooks != nil {
 		of = append(of, "hooks")
 	}
+	if s.Protected != nil {
+		of = append(of, protect.FileName)
+	}
+	if s.Mirrors != nil {
+		of = append(of, "mirrors")
+	}
 	for _, it := range of {
 		if err := s.Read(it); err != nil {
 			all = append(all, err)
@@ -136,12 +183,20 @@ func (s *Site) Unread() (all []error) {
 	return all
 }
 
-// Changed tells the log and the hooks which refs a user's push or stream changed.
+// Protects says why a login may not change a ref of a tenant so, or nothing. The error is that of the change.
+func (s *Site) Protects(login, tenant string, c protect.Change) (why string, err error) {
+	return s.Protected.Of(tenant).Refusal(c, func(names []string) bool { return s.Access.IsOneOf(login, names) })
+}
+
+// Changed tells the log, the hooks and the mirrors which refs a user's push or stream changed.
 func (s *Site) Changed(address string, push hooks.Push) {
 	for _, it := range push.Changes {
 		s.Log.Change(logs.Change{Address: address, User: push.User, Tenant: push.Tenant, Ref: it.Ref, Old: it.Old, New: it.New})
 	}
 	if s.Hooks != nil && len(push.Changes) > 0 {
 		s.Hooks.Tell(push)
+	}
+	if s.Mirrors != nil && len(push.Changes) > 0 {
+		s.Mirrors.Pushed(push.Tenant)
 	}
 }

@@ -73,7 +73,7 @@ func (s *session) carryOut(ctx context.Context, request *ssh.Request) (ends bool
 	case !isStill:
 		s.say("the key or the password of this connection is no longer valid; connect again")
 	case request.Type == "shell":
-		fmt.Fprintf(s.terminal(), "Hello %s. This server speaks git, takes import, ask and frames, and has no shell.\r\n", s.user)
+		fmt.Fprintf(s.terminal(), "Hello %s. This server speaks git, takes import, ask, frames and account, and has no shell.\r\n", s.user)
 	default:
 		status = s.run(ctx, request.Payload)
 	}
@@ -174,13 +174,16 @@ func (s *session) say(why string) uint32 {
 
 // words says which commands there are.
 const words = "this server takes git-upload-pack and git-receive-pack with one path in quotes; import TENANT [--token WORD]; ask TENANT QUERY;" +
-	" and frames TENANT; and no other command"
+	" frames TENANT; and account; and no other command"
 
 // run carries out a command, and gives the status with which it ends.
 func (s *session) run(ctx context.Context, payload []byte) uint32 {
 	var exec struct{ Command string }
 	if ssh.Unmarshal(payload, &exec) != nil {
 		return usage
+	}
+	if words, ok := parseAccount(exec.Command); ok {
+		return s.runAccount(ctx, words)
 	}
 	if it, ok := parseVerb(exec.Command); ok {
 		return s.runVerb(ctx, it)

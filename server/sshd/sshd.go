@@ -1,5 +1,5 @@
-// Package sshd serves Git over ssh: git-upload-pack and git-receive-pack; and the commands import, ask and frames, for clients without a protocol
-// of Git. It takes no other command.
+// Package sshd serves Git over ssh: git-upload-pack and git-receive-pack; the commands import, ask and frames, for clients without a protocol of Git;
+// and account, by which users look after their own. It takes no other command.
 package sshd
 
 import (

@@ -87,6 +87,13 @@ func TestSessionsOfAUser(t *testing.T) {
 }
 
 // TestSessionsThatWaitLetAllCome has sessions of which all wait, or one does not.
+// unreadOf is what is unread, while others may still write it.
+func unreadOf(p *pace) int {
+	p.mutex.Lock()
+	defer p.mutex.Unlock()
+	return p.unread
+}
+
 func TestSessionsThatWaitLetAllCome(t *testing.T) {
 	p := newPace(swallowing{})
 	p.open(2)
@@ -113,7 +120,7 @@ func TestSessionsThatWaitLetAllCome(t *testing.T) {
 		t.Error("more is taken although a session does not read")
 	}
 	p.wait(other, 1)
-	if !isLet() || p.unread != 0 {
+	if !isLet() || unreadOf(p) != 0 {
 		t.Error("all wait, and nothing is taken")
 	}
 	p.wait(other, -1)

@@ -6,6 +6,7 @@ import (
 	"bufio"
 	"bytes"
 	"context"
+	"errors"
 	"fmt"
 	"os"
 	"os/exec"
@@ -50,9 +51,10 @@ func pushes(folder string) {
 			go func(tenant string) {
 				defer all.Done()
 				for k := 0; k < each; k++ {
-					pushAndTell(s, tenant, fmt.Sprintf("m%d.%d", round, k))
+					pushAndTell(s, tenant, fmt.Sprintf("m%d.%d", round, k), k == each-1)
 				}
 				giveUpOne(s, tenant)
+				refuseOne(s, tenant)
 			}(fmt.Sprint("t", i))
 		}
 		all.Wait()
@@ -64,8 +66,9 @@ func pushes(folder string) {
 	tell("closed", s.Close(background))
 }
 
-// pushAndTell pushes until the child is there for it. A push that is told to have failed is not tried again under its message.
-func pushAndTell(s *Store, tenant, text string) {
+// pushAndTell pushes until the child is there for it. A push that is told to have failed is not tried again under its message. One that is measured
+// is carried out before the journal has it.
+func pushAndTell(s *Store, tenant, text string, isMeasured bool) {
 	from := untilThere(s, tenant)
 	tell("began", tenant, text)
 	st, err := s.Begin(background, tenant, Whole)
@@ -81,13 +84,47 @@ func pushAndTell(s *Store, tenant, text string) {
 	}
 	if err == nil {
 		st.Keep(answers.New(text, []byte(tenant)))
-		_, err = st.Commit(background, []byte("done\n"))
+		err = commitOne(st, isMeasured, nil)
 	}
 	if err != nil {
 		tell("failed", tenant, text, err)
 		return
 	}
 	tell("told", tenant, text)
+}
+
+// commitOne ends a stream: as pushes end, or as streams do whose tenant has little room, where `refusal` may be what the measured size is answered.
+func commitOne(st *Stream, isMeasured bool, refusal error) error {
+	if !isMeasured {
+		_, err := st.Commit(background, []byte("done\n"))
+		return err
+	}
+	judge := func(int64, Ask) error { return refusal }
+	_, err := st.FeedWithin(background, []byte("done\n"), judge)
+	if err == nil {
+		_, err = st.CommitWithin(background, judge)
+	}
+	return err
+}
+
+// tooLarge is the message of commits that a quota refuses.
+const tooLarge = "too-large"
+
+// refuseOne has a stream refused after it was carried out and measured.
+func refuseOne(s *Store, tenant string) {
+	st, err := s.Begin(background, tenant, Checkpoints)
+	if err != nil {
+		return
+	}
+	defer st.GiveUp()
+	body := fmt.Sprintf("%scommit refs/heads/main\ncommitter a <a@b> 1 +0000\ndata %d\n%s\nfrom refs/heads/main^0\n", header, len(tooLarge), tooLarge)
+	pending, err := st.Feed(background, []byte(body))
+	if err == nil {
+		_, err = pending.Wait(background)
+	}
+	if err == nil && commitOne(st, true, errors.New("the quota")) == nil {
+		tell("refused", "nothing", tenant)
+	}
 }
 
 func untilThere(s *Store, tenant string) string {
@@ -171,6 +208,9 @@ func judge(t *testing.T, folder, fault, told string) {
 		tenant := fmt.Sprint("t", i)
 		history[tenant] = messages(t, s, tenant)
 		judgeTokens(t, s, fault, tenant, history[tenant])
+		if history[tenant][tooLarge] > 0 || strings.Contains(told, "refused nothing") {
+			t.Fatalf("%s: a stream that the quota refuses left a commit in %s:\n%s", fault, tenant, told)
+		}
 		if refs := ask(t, s, tenant, "refs"); strings.Contains(refs, "lost") {
 			t.Fatalf("%s: a stream that was given up left %q", fault, refs)
 		}

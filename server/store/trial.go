@@ -15,8 +15,11 @@ import (
 // alone. So a step that makes a checkpoint is carried out before the journal has it, while nobody else uses the child and a copy of the tenant
 // stands aside. Where the tenant has too much then, the copy takes its place, and the journal never gets the step.
 
-// Judge refuses a tenant that would have so many bytes.
-type Judge func(bytes int64) error
+// Judge refuses a tenant that would have so many bytes. It may ask the child what else the tenant would have.
+type Judge func(bytes int64, ask Ask) error
+
+// Ask asks the child one thing while nobody else uses it. Refused is its refusal.
+type Ask func(frames.Step) ([]byte, error)
 
 // FeedWithin feeds a piece that ends with a checkpoint, and waits for the answer. What `judge` says of the bytes that the tenant has then may
 // be an error. That is given back, the stream is closed, and the tenant is as at the checkpoint before, without the objects that no ref reaches.
@@ -66,8 +69,10 @@ func (st *Stream) try(ctx context.Context, step frames.Step, judge Judge) (frame
 	if err != nil {
 		return frames.Answer{}, fmt.Errorf("what the repository would have cannot be measured: %w", err)
 	}
+	faultpoint.Here("before a step is carried out alone")
 	answer, err := st.carryOut(ctx, step, aside, judge)
 	if err == nil {
+		faultpoint.Here("after a step is carried out alone")
 		err = st.note(step, answer)
 	}
 	return answer, err
@@ -113,14 +118,19 @@ func (st *Stream) carryOut(ctx context.Context, step frames.Step, aside string, 
 			st.process.Kill()
 			return answer, err
 		}
-		if err = judge(size.Bytes); err != nil {
+		if err = judge(size.Bytes, st.ask); err != nil {
+			faultpoint.Here("before a step is undone")
 			st.undo(aside)
+			faultpoint.Here("after a step is undone")
 			return answer, err
 		}
 		st.measured(size, refs)
 	}
 	return answer, st.store.drop(aside)
 }
+
+// ask asks the child of the stream while the gate `steps` is shut.
+func (st *Stream) ask(step frames.Step) ([]byte, error) { return st.store.requestOf(st.process, step) }
 
 // measure asks what a tenant has. The gate `steps` is shut.
 func (s *Store) measure(process *child.Process, tenant string) (Size, refSize, error) {

@@ -34,7 +34,7 @@ func within(t *testing.T, s *Store, tenant, text string, most int64) (bytes int6
 	must(t, err)
 	_, err = pending.Wait(background)
 	must(t, err)
-	_, err = st.CommitWithin(background, func(has int64) error {
+	_, err = st.CommitWithin(background, func(has int64, _ Ask) error {
 		if bytes = has; has > most {
 			return errTooMany
 		}
@@ -104,7 +104,7 @@ func TestARefusedStreamLeavesTheLastCheckpoint(t *testing.T) {
 	must(t, err)
 	defer st.GiveUp()
 	refuse := false
-	judge := func(int64) error {
+	judge := func(int64, Ask) error {
 		if refuse {
 			return errTooMany
 		}

@@ -9,6 +9,7 @@ import (
 	"testing"
 
 	"gitpoold/fastimport"
+	"gitpoold/fsck"
 	"gitpoold/store"
 )
 
@@ -68,7 +69,7 @@ func storeOf(t *testing.T) *store.Store {
 // mostOf is what bounds a stream, which comes in pieces.
 func mostOf(t *testing.T, text string, had int64, chance *rand.Rand) int64 {
 	t.Helper()
-	reader := fastimport.New(nil)
+	reader := fastimport.New(fsck.Rules{}, nil)
 	for rest := []byte(text); len(rest) > 0; {
 		part, err := reader.Next(context.Background(), rest, fastimport.Part{Bytes: 1 + chance.Intn(999), Heavy: 9})
 		if err != nil {

@@ -45,11 +45,7 @@ func (u Use) open(ctx context.Context, token string) (*stream, *answers.Answer, 
 	if kept := u.Tenant.Kept(token); kept != nil {
 		return nil, kept, nil
 	}
-	_, err := u.Tenant.RoomCounted(ctx)
-	if err == nil {
-		err = u.mayGoOn()
-	}
-	if err != nil {
+	if err := u.mayOpen(ctx); err != nil {
 		return nil, nil, err
 	}
 	leave, err := u.Site.Limits.EnterStream(u.User, u.Tenant.Name())
@@ -72,7 +68,7 @@ func (u Use) open(ctx context.Context, token string) (*stream, *answers.Answer, 
 	}
 	values := u.Site.Limits.Get()
 	s := &stream{Use: u, inner: inner, until: time.Now().Add(values.StreamAge), most: values.StreamBytes,
-		reader: fastimport.New(u.Tenant.Object), pace: newPace(), growth: growth{room: room},
+		reader: fastimport.New(values.Fsck, u.Tenant.Object), pace: newPace(), growth: growth{room: room},
 		answer: answers.New(token, nil), leave: leave, blocked: make(chan error), over: make(chan struct{})}
 	_, s.unwatch = u.Site.Watch(context.Background(), u.User, u.Tenant.Name(), access.Write, s.block)
 	if err := s.tellChanges(ctx); err != nil {
@@ -80,6 +76,18 @@ func (u Use) open(ctx context.Context, token string) (*stream, *answers.Answer, 
 		return nil, nil, err
 	}
 	return s, nil, nil
+}
+
+// mayOpen refuses a stream of a tenant that is full or has hooks which judge pushes, and of a user who may not go on.
+func (u Use) mayOpen(ctx context.Context) error {
+	_, err := u.Tenant.RoomCounted(ctx)
+	if err == nil {
+		err = u.mayPassHooks()
+	}
+	if err == nil {
+		err = u.mayGoOn()
+	}
+	return err
 }
 
 // blockWithin is how long a client that is blocked may be at work with an answer; then its connection is cut.
@@ -136,12 +144,19 @@ func (s *stream) feedPart(ctx context.Context, piece []byte, part fastimport.Par
 // fits tells whether the tenant may have whatever the stream has told. Else what it has is measured at the next checkpoint.
 func (s *stream) fits() bool { return s.inner.Fits(s.reader.Most(s.inner.Had())) }
 
-// feedFitting feeds a part. A checkpoint at its end is undone if the tenant may not have what it would have then.
+// feedFitting feeds a part. A checkpoint at its end is undone if the tenant may not have what it would have then, or a ref may not change so.
 func (s *stream) feedFitting(ctx context.Context, piece []byte, part fastimport.Part) (frames.Answer, error) {
-	if s.fits() || !part.HasCheckpoint {
+	if !part.HasCheckpoint {
 		return s.feedInner(ctx, piece)
 	}
-	answer, err := s.inner.FeedMeasured(ctx, piece)
+	judge, err := s.judge(ctx)
+	switch {
+	case err != nil:
+		return frames.Answer{}, err
+	case judge == nil && s.fits():
+		return s.feedInner(ctx, piece)
+	}
+	answer, err := s.inner.FeedMeasured(ctx, piece, judge)
 	if err == nil && answer.Status == frames.Ok {
 		s.reader.Forget()
 		s.growth, err = s.newGrowth()
@@ -232,12 +247,16 @@ func (s *stream) end(ctx context.Context) (answer frames.Answer, err error) {
 	return answer, nil
 }
 
-// endFitting ends the stream, unless the tenant may not have what it would have then.
+// endFitting ends the stream, unless the tenant may not have what it would have then, or a ref may not change so.
 func (s *stream) endFitting(ctx context.Context) (frames.Answer, error) {
-	if s.fits() {
+	judge, err := s.judge(ctx)
+	switch {
+	case err != nil:
+		return frames.Answer{}, err
+	case judge == nil && s.fits():
 		return s.inner.End(ctx)
 	}
-	answer, err := s.inner.EndMeasured(ctx)
+	answer, err := s.inner.EndMeasured(ctx, judge)
 	return answer, atQuota(err)
 }
 

@@ -52,7 +52,8 @@ func NumberOf(err error) int {
 	var refused *fastimport.Refused
 	switch {
 	case errors.As(err, &refused), errors.As(err, &passed), errors.As(err, &blocked), errors.Is(err, tenants.ErrFull),
-		errors.Is(err, limits.ErrUserBusy), errors.Is(err, daily.ErrBytes), errors.Is(err, daily.ErrChild), errors.Is(err, site.ErrReadOnly):
+		errors.Is(err, limits.ErrUserBusy), errors.Is(err, daily.ErrBytes), errors.Is(err, daily.ErrChild), errors.Is(err, site.ErrReadOnly),
+		errors.As(err, new(site.Mirrored)):
 		return 25
 	case errors.Is(err, site.ErrNotFound):
 		return 32

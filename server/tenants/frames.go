@@ -95,14 +95,15 @@ func (s *FrameStream) Fits(more int64) bool {
 }
 
 // FeedMeasured feeds a piece that ends with a checkpoint, and waits for the answer. It is ErrFull where the tenant may not have what it would have
-// then: that is dropped.
-func (s *FrameStream) FeedMeasured(ctx context.Context, body []byte) (frames.Answer, error) {
-	return s.inner.FeedWithin(ctx, body, s.tenant.Allows)
+// then, or the error of `judge`, which may be nil: that is dropped.
+func (s *FrameStream) FeedMeasured(ctx context.Context, body []byte, judge func(Trial) error) (frames.Answer, error) {
+	return s.inner.FeedWithin(ctx, body, s.tenant.judgedBy(judge))
 }
 
-// EndMeasured ends the stream as End does. It is ErrFull where the tenant may not have what it would have then: that is dropped.
-func (s *FrameStream) EndMeasured(ctx context.Context) (frames.Answer, error) {
-	return s.ended(s.inner.CommitWithin(ctx, s.tenant.Allows))
+// EndMeasured ends the stream as End does. It is ErrFull where the tenant may not have what it would have then, or the error of `judge`: that is
+// dropped.
+func (s *FrameStream) EndMeasured(ctx context.Context, judge func(Trial) error) (frames.Answer, error) {
+	return s.ended(s.inner.CommitWithin(ctx, s.tenant.judgedBy(judge)))
 }
 
 // End ends the stream, and gives the answer once it is in the journal and synced. On an error the stream is open still.

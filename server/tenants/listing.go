@@ -139,8 +139,7 @@ func (t Tenant) ancestors(ctx context.Context, of Name, distances []int) (found 
 
 // missing asks the child once.
 func (t Tenant) missing(ctx context.Context, wants, haves []Name) (Listing, error) {
-	body := binary.BigEndian.AppendUint32(make([]byte, 0, 4+len(Name{})*(len(wants)+len(haves))), uint32(len(wants)))
-	body = appendNames(appendNames(body, wants), haves)
+	body := missingBody(wants, haves)
 	if len(body) > frames.LongestBody {
 		return nil, Fault{25}
 	}

@@ -1,5 +1,5 @@
 -- The message that a commit's contents hold, found line after line.
-use Rattle.std.proofs.Common.{◌≡◌, ◌≢◌, ℕ, ◌+◌, ◌<◌, ◌≤◌, ◌==◌, Bool, true, false, not, cond, List, [], ◌∷◌, length, drop, get_or, refl, sym, ap, ◌∙◌, Option, None, Some, All, position, arith}
+use Rattle.std.proofs.Common.{◌≡◌, ◌≢◌, ℕ, ◌+◌, ◌<◌, ◌≤◌, ◌==◌, Bool, true, false, not, cond, List, [], ◌∷◌, length, drop, refl, sym, ap, ◌∙◌, None, Some, All, position, arith}
 use Rattle.std.specs.Prelude.{sum_by, take_while}
 use Rattle.std.specs.List.{position_or_len, before_first, after_first, slice_split}
 use Rattle.std.specs.Str.{bytes_eq}
@@ -8,8 +8,7 @@ use Rattle.std.proofs.lemmas.Grind.{common_steps}
 use Rattle.std.proofs.lemmas.List.{drop_all, drop-drop, length-take}
 use Rattle.std.proofs.lemmas.List.Elements.{All-from_get_or}
 use Rattle.std.proofs.lemmas.List.Splits.{slice_split_first, slice_split_none}
-use Rattle.std.proofs.lemmas.List.Sums.{sum_by-cons, take_while-cons, fails_before_first, prefix_len_is}
-use Rattle.memchr.specs.Find.{IsFirstByte, is_byte}
+use Rattle.std.proofs.lemmas.List.Sums.{sum_by-cons, take_while-cons, fails_before_first}
 use Rattle.git_model.specs.CommitReading.{commit_read}
 use Rattle.git_model.specs.HeaderReading.{header_lines, message_of}
 
@@ -26,27 +25,6 @@ size_of text = length text + 1
 
 abbrev line_end : List ℕ → ℕ
 line_end xs = position_or_len ends_line xs
-
-goes_on : (b : Bool) → (b ≡ true → ⊥) → not b ≡ true
-goes_on true h = absurd (h refl)
-goes_on false h = refl
-
--- what the search for a byte finds is its position
-pub found_is_position : (xs : List ℕ) (found : Option ℕ) → IsFirstByte (is_byte 10) xs found
-    → found ≡ position ends_line xs
-found_is_position xs None h =
-    let whole : line_end xs ≡ length xs =
-    prefix_len_is (λ b. not (ends_line b)) xs (length xs) 0 (omega arith)
-    (λ k below. goes_on (ends_line (get_or xs k 0)) (h k (omega arith) below))
-    (λ below. absurd (omega arith)) in
-    grind (arith, common_steps)
-found_is_position xs (Some at) h =
-    let here : line_end xs ≡ at =
-    prefix_len_is (λ b. not (ends_line b)) xs at 0 (omega (arith, h.0.high))
-    (λ k below. goes_on (ends_line (get_or xs k 0)) (h.0.before k (omega arith) below))
-    (λ below. ap not h.1) in
-    let within : at < length xs = h.0.high in
-    grind (arith, common_steps)
 
 pub found_at : (xs : List ℕ) (at : ℕ) → Some at ≡ position ends_line xs
     → (line_end xs ≡ at) × (at < length xs)

@@ -1,6 +1,7 @@
 -- The answer to a query, of a repository as last saved.
-use Rattle.std.specs.Prelude.{ℕ, List, Result, Ok, Err, if◌then◌else◌}
+use Rattle.std.specs.Prelude.{◌≡◌, ℕ, List, Result, Ok, Err, if◌then◌else◌}
 use Rattle.git_model.specs.declared.kind.Kind.TheVariants as kind
+use Rattle.git_model.specs.GoodRepository.{AreObjects}
 use Rattle.git_model.specs.Repository.{Object, Repository, object_named}
 use Rattle.revisions.specs.declared.commit_range.Range.{Range}
 use Rattle.revisions.specs.Expressions.{Expression}
@@ -60,3 +61,9 @@ told r (queries.Repository asked) = told_of_repository r asked
 -- The answer to the bytes of a query.
 abbrev pub answer_to : Repository → List ℕ → Result (List ℕ) Fault
 answer_to repository text = and_then (query_of text) (told repository)
+
+-- An export is this text of good objects, such as streams make. Each other query is answered of any
+-- held objects.
+abbrev pub AreGoodForExport : (List ℕ → List ℕ) → List Object → Result Query Fault → Type 0
+AreGoodForExport digest os asked =
+    asked ≡ Ok (queries.Repository Export) → AreObjects digest os

@@ -2,7 +2,7 @@
 
 ghost use Rattle.std.specs.Prelude.{◌≡◌, ◌≤◌, take};
 ghost use Rattle.hex.specs.Hex.{encode_lower};
-ghost use Rattle.git_model.specs.GoodRepository.{AreObjects};
+ghost use Rattle.git_model.specs.HeldObjects.{AreHeld};
 ghost use Rattle.answers.specs.Printed.{shortest_prefix};
 
 use git_objects::{Name, Naming, has_twenty_bytes};
@@ -17,7 +17,7 @@ const ALL_DIGITS: usize = 40;
 /// The number of digits, 4 to 40, of the shortest prefix of a name that begins no other name of
 /// these objects. Takes no memory.
 pub fn shortest_prefix<N: Naming>(objects: &Objects<'_, N>, id: &Name) -> usize
-    ensures prefix { AreObjects N.digest_of objects.now
+    ensures prefix { AreHeld N.digest_of objects.now
         → take result (encode_lower id.now) ≡ shortest_prefix objects.now id.now }
     ensures digits { result ≤ ALL_DIGITS }
 {

@@ -1,15 +1,17 @@
 //! The answer to a query.
 
 ghost use Rattle.std.specs.Prelude.{◌≡◌, Ok, length, take, OnErr};
-ghost use Rattle.git_model.specs.{GoodRepository.{AreObjects}, Repository.{object_named}};
-ghost use Rattle.git_model.specs.Results.{and_then};
+ghost use Rattle.git_model.specs.{GoodRepository.{AreObjects}, HeldObjects.{AreHeld}};
+ghost use Rattle.git_model.specs.{Repository.{object_named}, Results.{and_then}};
 ghost use Rattle.tenant_tables.specs.{Objects.{objects}, IsBackedBy.{IsBackedBy}, View.{in_sight}};
 ghost use Rattle.tenant_tables.specs.declared.sight.Sight.TheVariants.{Committed};
 ghost use Rattle.revisions.specs.FirstParents.{IsFirstParentChain};
 ghost use Rattle.answers.specs.Answers.{answer_to, export_asked, log_asked, object_asked, told};
-ghost use Rattle.answers.specs.{Answers.{told_of_object, told_of_repository}, Faults.{Prints}};
+ghost use Rattle.answers.specs.Answers.{told_of_object, told_of_repository, AreGoodForExport};
+ghost use Rattle.answers.specs.{Faults.{Prints}, Queries.{query_of}};
 ghost use Rattle.answers.specs.Printed.{line, log_lines, object_text, shortest_prefix};
 ghost use Rattle.answers.specs.declared.query.ObjectQuery.TheVariants.{Ls};
+ghost use Rattle.answers.specs.declared.query.Query.TheVariants as queries;
 
 use crate::abbreviating::shortest_prefix;
 use crate::fault::Fault;
@@ -32,7 +34,7 @@ fn tell_prefix<N: Naming>(
     id: Name,
     out: &mut Vec<u8>,
 ) -> Result<(), Fault>
-    ensures told { AreObjects N.digest_of objects.now → Prints
+    ensures told { AreHeld N.digest_of objects.now → Prints
         (Ok (line (shortest_prefix objects.now id))) out.old.items out.new.items result }
     ensures kept { take (length out.old.items) out.new.items ≡ out.old.items }
 {
@@ -62,7 +64,7 @@ fn tell_tree<N: Naming>(
     id: Name,
     out: &mut Vec<u8>,
 ) -> Result<(), Fault>
-    ensures told { AreObjects N.digest_of objects.now → Prints
+    ensures told { AreHeld N.digest_of objects.now → Prints
         (told_of_object objects.now id Ls) out.old.items out.new.items result }
     ensures kept { take (length out.old.items) out.new.items ≡ out.old.items }
 {
@@ -79,7 +81,7 @@ fn tell_of_object<N: Naming>(
     asked: ObjectQuery,
     out: &mut Vec<u8>,
 ) -> Result<(), Fault>
-    ensures told { AreObjects N.digest_of objects.now → Prints
+    ensures told { AreHeld N.digest_of objects.now → Prints
         (told_of_object objects.now id asked) out.old.items out.new.items result }
     ensures kept { take (length out.old.items) out.new.items ≡ out.old.items }
 {
@@ -101,12 +103,12 @@ fn tell_object<N: Naming>(
     of: &Expression<'_>,
     out: &mut Vec<u8>,
 ) -> Result<(), Fault>
-    ensures told { AreObjects N.digest_of objects.now → IsFirstParentChain objects.now chain.old
+    ensures told { AreHeld N.digest_of objects.now → IsFirstParentChain objects.now chain.old
         → Prints
         (and_then (object_asked (record { objects = objects.now; refs = refs.now }) of.now)
         (λ id. told_of_object objects.now id asked)) out.old.items out.new.items result }
     ensures kept { take (length out.old.items) out.new.items ≡ out.old.items }
-    ensures chain { AreObjects N.digest_of objects.now → IsFirstParentChain objects.now chain.old
+    ensures chain { AreHeld N.digest_of objects.now → IsFirstParentChain objects.now chain.old
         → IsFirstParentChain objects.now chain.new }
 {
     let id = resolve_expression(alloc, objects, refs, chain, of)?;
@@ -121,12 +123,12 @@ fn tell_log<N: Naming>(
     range: &Range<Expression<'_>>,
     out: &mut Vec<u8>,
 ) -> Result<(), Fault>
-    ensures told { AreObjects N.digest_of objects.now → IsFirstParentChain objects.now chain.old
+    ensures told { AreHeld N.digest_of objects.now → IsFirstParentChain objects.now chain.old
         → Prints
         (and_then (log_asked (record { objects = objects.now; refs = refs.now }) range.now)
         (λ ids. Ok (log_lines objects.now ids))) out.old.items out.new.items result }
     ensures kept { take (length out.old.items) out.new.items ≡ out.old.items }
-    ensures chain { AreObjects N.digest_of objects.now → IsFirstParentChain objects.now chain.old
+    ensures chain { AreHeld N.digest_of objects.now → IsFirstParentChain objects.now chain.old
         → IsFirstParentChain objects.now chain.new }
 {
     let ids = resolve_range(alloc, objects, refs, chain, range)?;
@@ -159,7 +161,7 @@ fn tell_of_repository<N: Naming>(
     asked: RepositoryQuery,
     out: &mut Vec<u8>,
 ) -> Result<(), Fault>
-    ensures told { AreObjects N.digest_of objects.now → Prints
+    ensures told { AreGoodForExport N.digest_of objects.now (Ok (queries.Repository asked)) → Prints
         (told_of_repository (record { objects = objects.now; refs = refs.now }) asked)
         out.old.items out.new.items result }
     ensures kept { take (length out.old.items) out.new.items ≡ out.old.items }
@@ -180,12 +182,13 @@ fn tell<N: Naming>(
     query: &Query<'_>,
     out: &mut Vec<u8>,
 ) -> Result<(), Fault>
-    ensures told { AreObjects N.digest_of objects.now → IsFirstParentChain objects.now chain.old
-        → Prints
+    ensures told { AreHeld N.digest_of objects.now
+        → AreGoodForExport N.digest_of objects.now (Ok query.now)
+        → IsFirstParentChain objects.now chain.old → Prints
         (told (record { objects = objects.now; refs = refs.now }) query.now)
         out.old.items out.new.items result }
     ensures kept { take (length out.old.items) out.new.items ≡ out.old.items }
-    ensures chain { AreObjects N.digest_of objects.now → IsFirstParentChain objects.now chain.old
+    ensures chain { AreHeld N.digest_of objects.now → IsFirstParentChain objects.now chain.old
         → IsFirstParentChain objects.now chain.new }
 {
     match query {
@@ -204,12 +207,13 @@ fn tell_or_nothing<N: Naming>(
     query: &Query<'_>,
     out: &mut Vec<u8>,
 ) -> Result<(), Fault>
-    ensures told { AreObjects N.digest_of objects.now → IsFirstParentChain objects.now chain.old
-        → Prints
+    ensures told { AreHeld N.digest_of objects.now
+        → AreGoodForExport N.digest_of objects.now (Ok query.now)
+        → IsFirstParentChain objects.now chain.old → Prints
         (told (record { objects = objects.now; refs = refs.now }) query.now)
         out.old.items out.new.items result }
     ensures same { OnErr result (out.new.items ≡ out.old.items) }
-    ensures chain { AreObjects N.digest_of objects.now → IsFirstParentChain objects.now chain.old
+    ensures chain { AreHeld N.digest_of objects.now → IsFirstParentChain objects.now chain.old
         → IsFirstParentChain objects.now chain.new }
 {
     let start = out.len();
@@ -232,12 +236,13 @@ fn tell_committed<N: Naming>(
 ) -> Result<(), Fault>
     requires { IsBackedBy N.digest_of pool.now table.now.entries }
     ensures told { let os = objects pool.now (in_sight Committed table.now) in
-        AreObjects N.digest_of os → IsFirstParentChain os chain.old → Prints
+        AreHeld N.digest_of os → AreGoodForExport N.digest_of os (Ok query.now)
+        → IsFirstParentChain os chain.old → Prints
         (told (record { objects = os; refs = refs.now }) query.now)
         out.old.items out.new.items result }
     ensures same { OnErr result (out.new.items ≡ out.old.items) }
     ensures chain { let os = objects pool.now (in_sight Committed table.now) in
-        AreObjects N.digest_of os → IsFirstParentChain os chain.old
+        AreHeld N.digest_of os → IsFirstParentChain os chain.old
         → IsFirstParentChain os chain.new }
 {
     let objects = Objects::of(pool, table, Sight::Committed);
@@ -265,7 +270,7 @@ fn tell_committed<N: Naming>(
 /// `Fault::Memory` (90) where there is none. After a refusal `out` is unchanged.
 ///
 /// The pool is the one that the table stands in. The answer is the defined one where the committed
-/// objects are good (AreObjects of git_model).
+/// objects are held (AreHeld of git_model) and, for an export, good (AreObjects).
 pub fn answer<N: Naming>(
     alloc: Global,
     pool: &Pool<N>,
@@ -276,7 +281,7 @@ pub fn answer<N: Naming>(
 ) -> Result<(), Fault>
     requires { IsBackedBy N.digest_of pool.now table.now.entries }
     ensures told { let os = objects pool.now (in_sight Committed table.now) in
-        AreObjects N.digest_of os → Prints
+        AreHeld N.digest_of os → AreGoodForExport N.digest_of os (query_of query.now) → Prints
         (answer_to (record { objects = os; refs = refs.now }) query.now)
         out.old.items out.new.items result }
     ensures same { OnErr result (out.new.items ≡ out.old.items) }
@@ -304,12 +309,13 @@ pub fn answer_along<N: Naming>(
 ) -> Result<(), Fault>
     requires { IsBackedBy N.digest_of pool.now table.now.entries }
     ensures told { let os = objects pool.now (in_sight Committed table.now) in
-        AreObjects N.digest_of os → IsFirstParentChain os chain.old → Prints
+        AreHeld N.digest_of os → AreGoodForExport N.digest_of os (query_of query.now)
+        → IsFirstParentChain os chain.old → Prints
         (answer_to (record { objects = os; refs = refs.now }) query.now)
         out.old.items out.new.items result }
     ensures same { OnErr result (out.new.items ≡ out.old.items) }
     ensures chain { let os = objects pool.now (in_sight Committed table.now) in
-        AreObjects N.digest_of os → IsFirstParentChain os chain.old
+        AreHeld N.digest_of os → IsFirstParentChain os chain.old
         → IsFirstParentChain os chain.new }
 {
     let query = read_query(alloc, query)?;

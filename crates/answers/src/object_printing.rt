@@ -1,17 +1,16 @@
 //! How objects are printed: git-cat-file(1), git-ls-tree(1), git-log(1).
 
-ghost use Rattle.std.specs.Prelude.{◌≡◌, ◌++◌, length, take, codes, decimal, OnOk, List};
+ghost use Rattle.std.specs.Prelude.{◌≡◌, ◌++◌, length, take, codes, decimal, OnOk};
 ghost use Rattle.std.specs.List.{flat_map};
 ghost use Rattle.hex.specs.Hex.{encode_lower};
-ghost use Rattle.git_model.specs.{Content.{content_from}, GoodRepository.{AreObjects, IsValid}};
-ghost use Rattle.git_model.specs.{Repository.{Object}, StoredPath.{entries_in}};
-ghost use Rattle.git_model.specs.Tree.{TreeEntry as Entry, CanWriteTree, tree_contents};
+ghost use Rattle.git_model.specs.{Content.{content_from}, HeldObjects.{AreHeld}};
+ghost use Rattle.git_model.specs.{Readable.{IsReadable}, StoredPath.{entries_in}};
 ghost use Rattle.git_model.specs.TreeReading.{tree_read};
 ghost use Rattle.git_objects.specs.Parts.{entries_of, entry_of};
 ghost use Rattle.answers.specs.Printed.{content_text, line, tree_line, tree_lines};
 
 use git_objects::{
-    Kind, Memory, Name, Naming, TreeEntry, append_listing, append_parts, kind_word, read_tree,
+    Kind, Memory, Name, Naming, TreeEntry, append_listing, append_parts, kind_word, look_tree,
 };
 use itoa::Buffer;
 use std::alloc::Global;
@@ -65,12 +64,11 @@ fn append_entries(entries: &[TreeEntry<'_>], out: &mut Vec<u8>) -> Result<(), Me
 
 // Appends the entries of a tree with these contents.
 fn append_tree_contents(alloc: Global, contents: &[u8], out: &mut Vec<u8>) -> Result<(), Memory>
-    ensures written { (es : List Entry) → CanWriteTree es → contents.now ≡ tree_contents es
-        → OnOk result (out.new.items
+    ensures written { IsReadable Kind.Tree contents.now → OnOk result (out.new.items
         ≡ out.old.items ++ flat_map tree_line (tree_read contents.now)) }
     ensures kept { take (length out.old.items) out.new.items ≡ out.old.items }
 {
-    match read_tree(alloc, contents)? {
+    match look_tree(alloc, contents)? {
         Some(entries) => append_entries(&entries, out),
         None => Ok(()),
     }
@@ -83,7 +81,7 @@ fn append_entries_in(
     contents: &[u8],
     out: &mut Vec<u8>,
 ) -> Result<(), Memory>
-    ensures written { (os : List Object) → IsValid os kind contents.now → OnOk result
+    ensures written { IsReadable kind contents.now → OnOk result
         (out.new.items ≡ out.old.items ++ flat_map tree_line (entries_in kind contents.now)) }
     ensures kept { take (length out.old.items) out.new.items ≡ out.old.items }
 {
@@ -100,7 +98,7 @@ pub fn append_tree<N: Naming>(
     tree: &Name,
     out: &mut Vec<u8>,
 ) -> Result<(), Memory>
-    ensures written { AreObjects N.digest_of objects.now → OnOk result (out.new.items
+    ensures written { AreHeld N.digest_of objects.now → OnOk result (out.new.items
         ≡ out.old.items ++ tree_lines objects.now tree.now) }
     ensures kept { take (length out.old.items) out.new.items ≡ out.old.items }
 {

@@ -12,7 +12,8 @@ use Rattle.git_model.specs.CommitReading.{commit_read}
 use Rattle.git_model.specs.Content.{Content, no_content}
 use Rattle.git_model.specs.Repository.{Object, object_named}
 use Rattle.git_model.specs.References.{Reference, reference, references_of, references_in, kind_named, place_of, object_at, no_object, parents_in, parents_of}
-use Rattle.git_model.specs.GoodRepository.{StandsBefore, AreObjects}
+use Rattle.git_model.specs.GoodRepository.{StandsBefore}
+use Rattle.git_model.specs.HeldObjects.{AreHeld}
 use Rattle.git_model.specs.Peeling.{is_of}
 use Rattle.git_model.specs.Reach.{IsClosed, Reaches, is_reachable, reaches}
 use Rattle.git_model.proofs.Least.{least}
@@ -96,7 +97,7 @@ same_test true b f g = sym (f refl)
 same_test false true f g = g refl
 same_test false false f g = refl
 
-module _ (digest : List ℕ → List ℕ) (os : List Object) (good : AreObjects digest os) where
+module _ (digest : List ℕ → List ℕ) (os : List Object) (good : AreHeld digest os) where
   parents_named : (id : List ℕ) (o : Option Content) → object_named id os ≡ o
       → All (IsCommit os) (parents_in (unwrap_or o no_content).kind (unwrap_or o no_content).bytes)
   parents_named id None e = All-nil (IsCommit os)

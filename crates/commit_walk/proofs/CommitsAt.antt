@@ -6,15 +6,14 @@ use Rattle.git_model.specs.declared.kind.Kind.{Kind}
 use Rattle.git_model.specs.declared.kind.Kind.TheVariants as kind
 use Rattle.git_model.specs.contracts.kind.Kind.{the_type}
 use denote.Enum.Bare.{sameb}
-use Rattle.git_model.specs.Commit.{Commit, CanWriteCommit, commit_contents}
 use Rattle.git_model.specs.CommitReading.{commit_read}
 use Rattle.git_model.specs.Content.{Content, content_from, no_content}
 use Rattle.git_model.specs.Repository.{Object}
 use Rattle.git_model.specs.References.{place_of, object_at, no_object, parents_in, parents_of}
-use Rattle.git_model.specs.GoodRepository.{IsObject, IsCommit, IsValid, AreObjects}
+use Rattle.git_model.specs.Readable.{IsReadable}
+use Rattle.git_model.specs.HeldObjects.{IsHeldObject, AreHeld}
 use Rattle.git_model.specs.Peeling.{is_of, has_kind}
 use Rattle.git_model.proofs.Places.{at_place}
-use Rattle.git_model.proofs.CommitReadings.{commit_back}
 use Rattle.tenant_tables.proofs.AddLemmas.{same_kind}
 use Rattle.commit_walk.proofs.Named.{there, not_there}
 
@@ -51,14 +50,12 @@ told_commit kind.Tree bytes e = refl
 told_commit kind.Blob bytes e = refl
 told_commit kind.Tag bytes e = refl
 
--- what is known of a commit's contents among good objects
+-- what is known of a commit's contents among held objects
 pub record IsTold (os : List Object) (i : ℕ) (bytes : List ℕ) : Type 0 where
-  pub commit : Commit
-  pub writable : CanWriteCommit commit
-  pub contents : bytes ≡ commit_contents commit
-  pub parents : parents_of os (object_at i os).id ≡ commit.parents
+  pub readable : IsReadable kind.Commit bytes
+  pub parents : parents_of os (object_at i os).id ≡ (commit_read bytes).parents
 
-module _ (digest : List ℕ → List ℕ) (os : List Object) (good : AreObjects digest os) (i : ℕ)
+module _ (digest : List ℕ → List ℕ) (os : List Object) (good : AreHeld digest os) (i : ℕ)
     (lt : i < length os) (name bytes : List ℕ) where
   parents_here : parents_of os (object_at i os).id
       ≡ parents_in (object_at i os).content.kind (object_at i os).content.bytes
@@ -79,20 +76,13 @@ module _ (digest : List ℕ → List ℕ) (os : List Object) (good : AreObjects 
   pub commit_told : Some (record { id = name; content = content_from kind.Commit bytes }) ≡ slice_get os i
       → IsTold os i bytes
   commit_told h = record {
-    commit = valid.0;
-    writable = valid.1.writable;
-    contents = valid.1.contents;
-    parents = parents_here ∙ ap (λ (x : Object). parents_in x.content.kind x.content.bytes) o
-        ∙ ap (λ (b : List ℕ). (commit_read b).parents) valid.1.contents
-        ∙ ap (λ (c : Commit). c.parents) (commit_back valid.0 valid.1.writable);
+    readable = subst (λ (x : Object). IsReadable x.content.kind x.content.bytes) o
+        (at_place (IsHeldObject digest) os i good.each lt).readable;
+    parents = parents_here ∙ ap (λ (x : Object). parents_in x.content.kind x.content.bytes) o;
   }
     where
       o : object_at i os ≡ record { id = name; content = content_from kind.Commit bytes }
       o = object_told os i (record { id = name; content = content_from kind.Commit bytes }) h
-
-      valid : (c : Commit) × IsCommit bytes c
-      valid = subst (λ (x : Object). IsValid os x.content.kind x.content.bytes) o
-          (at_place (IsObject digest os) os i good.each lt).valid
 
 pub not_true : (b : Bool) → true ≡ not b → b ≡ false
 not_true true e = cc e

@@ -8,4 +8,3 @@ pub mod Orders
 pub mod LogOrder
 pub mod RangeWalks
 pub mod HeaderLines
-pub mod CommitTimes

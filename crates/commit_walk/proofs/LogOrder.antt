@@ -18,18 +18,16 @@ use Rattle.std.proofs.lemmas.List.Kept.{AllPairs-cons}
 use Rattle.std.proofs.lemmas.Cmp.{then_total, on_total, back_total, nat_cmp_total, nat_list_cmp_total}
 use Rattle.git_model.specs.declared.kind.Kind.{Kind}
 use Rattle.git_model.specs.declared.kind.Kind.TheVariants as kind
-use Rattle.git_model.specs.Commit.{Commit, CanWriteCommit, commit_contents}
-use Rattle.git_model.specs.CommitReading.{commit_read, commit_time}
+use Rattle.git_model.specs.CommitReading.{time_of}
 use Rattle.git_model.specs.Content.{Content, content_from, no_content}
 use Rattle.git_model.specs.Repository.{Object}
 use Rattle.git_model.specs.References.{object_at, no_object, content_named}
-use Rattle.git_model.specs.GoodRepository.{AreObjects}
+use Rattle.git_model.specs.HeldObjects.{AreHeld}
 use Rattle.git_model.specs.Peeling.{is_of}
-use Rattle.git_model.proofs.CommitReadings.{commit_back}
 use Rattle.commit_walk.specs.Logs.{LogKey, log_key, log_cmp, log_of, in_log_order, IsLogOf}
 use Rattle.commit_walk.proofs.Orders.{in_order_sorted, in_order_members, only_in_order}
 use Rattle.commit_walk.proofs.Named.{there}
-use Rattle.commit_walk.proofs.CommitsAt.{object_told, kind_told, commit_told, kind_is_commit}
+use Rattle.commit_walk.proofs.CommitsAt.{object_told}
 
 pub log_cmp_total : IsTotalOrder log_cmp
 log_cmp_total =
@@ -50,38 +48,20 @@ log_cmp_same a b e = by (nat_cmp b.time a.time) refl e
 
 -- ---- the key that is read of a commit
 
-pub record IsKeyTold (os : List Object) (i : ℕ) (name bytes : List ℕ) : Type 0 where
-  pub commit : Commit
-  pub writable : CanWriteCommit commit
-  pub contents : bytes ≡ commit_contents commit
-  pub key : log_key os (object_at i os).id ≡ record { time = commit_time commit; id = name }
-
-pub key_told : (digest : List ℕ → List ℕ) (os : List Object) → AreObjects digest os → (i : ℕ)
+pub key_told : (digest : List ℕ → List ℕ) (os : List Object) → AreHeld digest os → (i : ℕ)
     → i < length os → (name : List ℕ) (k : Kind) (bytes : List ℕ)
     → Some (record { id = name; content = content_from k bytes }) ≡ slice_get os i
-    → IsTrue (is_of os kind.Commit (object_at i os).id)
-    → IsKeyTold os i name bytes
-key_told digest os good i lt name k bytes h commit =
-    let at = good.distinct i lt in
-    let is = kind_is_commit k (sym (kind_told os (object_at i os).id i name k bytes at lt h) ∙ commit) in
-    let here = rw is at h in
-    let told = commit_told digest os good i lt name bytes here in
-    let o = object_told os i (record { id = name; content = content_from kind.Commit bytes }) here in
+    → log_key os (object_at i os).id ≡ record { time = time_of bytes; id = name }
+key_told digest os held i lt name k bytes h =
+    let at = held.distinct i lt in
+    let o = object_told os i (record { id = name; content = content_from k bytes }) h in
     let named = (there (object_at i os).id os (omega (arith, at))).named in
-    let read : commit_time (commit_read (content_named (object_at i os).id os).bytes)
-    ≡ commit_time told.commit =
-    ap (λ (x : Option Content). commit_time (commit_read (unwrap_or x no_content).bytes)) named
-    ∙ ap (λ (n : ℕ). commit_time (commit_read (object_at n os).content.bytes)) at
-    ∙ ap (λ (x : Object). commit_time (commit_read x.content.bytes)) o
-    ∙ ap (λ (b : List ℕ). commit_time (commit_read b)) told.contents
-    ∙ ap commit_time (commit_back told.commit told.writable) in
+    let read : time_of (content_named (object_at i os).id os).bytes ≡ time_of bytes =
+    ap (λ (x : Option Content). time_of (unwrap_or x no_content).bytes) named
+    ∙ ap (λ (n : ℕ). time_of (object_at n os).content.bytes) at
+    ∙ ap (λ (x : Object). time_of x.content.bytes) o in
     let id : (object_at i os).id ≡ name = ap (λ (x : Object). x.id) o in
-    record {
-      commit = told.commit;
-      writable = told.writable;
-      contents = told.contents;
-      key = λ j. record { time = read j; id = id j };
-    }
+    λ j. record { time = read j; id = id j }
 
 both_tied : (r s : Ordering) → (is_eq r && is_eq s) ≡ is_eq (ordering_then r s)
 both_tied Less s = refl
@@ -104,7 +84,7 @@ key_ties a b =
 
 -- the keys of the members among the first objects
 abbrev pub AreKeysTo : (List ℕ → List ℕ) → List Object → List Bool → ℕ → List LogKey → Type 0
-AreKeysTo digest os flags i keys = (set : List ℕ → Bool) → AreObjects digest os
+AreKeysTo digest os flags i keys = (set : List ℕ → Bool) → AreHeld digest os
     → flags ≡ map (λ (o : Object). set o.id) os
     → ((id : List ℕ) → IsTrue (set id) → IsTrue (is_of os kind.Commit id))
     → keys ≡ map (λ (o : Object). log_key os o.id) (filter (λ (o : Object). set o.id) (take i os))

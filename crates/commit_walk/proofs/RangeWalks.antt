@@ -9,7 +9,7 @@ use Rattle.std.proofs.lemmas.List.Elements.{All-nil, All-cons, All-head, All-app
 use Rattle.git_model.specs.declared.kind.Kind.TheVariants as kind
 use Rattle.git_model.specs.Repository.{Object}
 use Rattle.git_model.specs.References.{place_of, object_at, no_object, parents_of}
-use Rattle.git_model.specs.GoodRepository.{AreObjects}
+use Rattle.git_model.specs.HeldObjects.{AreHeld}
 use Rattle.git_model.specs.Peeling.{is_of}
 use Rattle.git_model.specs.Reach.{IsClosed, Reaches, reaches}
 use Rattle.git_model.proofs.Earlier.{parents_fall}
@@ -67,7 +67,7 @@ size-if : (os : List Object) (ids : List (List ℕ)) (old new : List Bool) (b : 
 size-if os ids old new true m = m.size
 size-if os ids old new false same = ap length same
 
-module _ (digest : List ℕ → List ℕ) (os : List Object) (good : AreObjects digest os) where
+module _ (digest : List ℕ → List ℕ) (os : List Object) (good : AreHeld digest os) where
   -- one place down
   pub Side-step : (tip : List ℕ) (at : ℕ) (old new : List Bool) (b : Bool) → b ≡ flag_at old at
       → IsSide os tip (suc at) old → MarksIf b os old new (parents_of os (object_at at os).id)
@@ -537,7 +537,7 @@ no-apart : (symmetric : Bool) → is_apart symmetric false false ≡ true → �
 no-apart true e = cc e
 no-apart false e = cc e
 
-module _ (digest : List ℕ → List ℕ) (os : List Object) (good : AreObjects digest os) (symmetric : Bool)
+module _ (digest : List ℕ → List ℕ) (os : List Object) (good : AreHeld digest os) (symmetric : Bool)
     (left right : List ℕ) where
   -- a side reaches nothing from its top on
   none-above : (tip : List ℕ) (top p : ℕ) → (is_of os kind.Commit tip ≡ true → place_of tip os < top)

@@ -7,7 +7,7 @@ use Rattle.std.proofs.lemmas.Bool.Decides.{nat_tests}
 use Rattle.std.proofs.lemmas.List.Elements.{All-contains}
 use Rattle.git_model.specs.Repository.{Object}
 use Rattle.git_model.specs.References.{place_of, object_at, parents_of}
-use Rattle.git_model.specs.GoodRepository.{AreObjects}
+use Rattle.git_model.specs.HeldObjects.{AreHeld}
 use Rattle.git_model.specs.Reach.{IsClosed, Reaches}
 use Rattle.git_model.proofs.Earlier.{parents_fall}
 use Rattle.commit_walk.specs.Marks.{is_marked, IsPlaceOfOne, Marks, IsReached}
@@ -42,7 +42,7 @@ pub record IsWalk (os : List Object) (tip : List ℕ) (floor from : ℕ)
   pub done : (p : ℕ) → IsTrue (is_marked floor flags p) → floor + from ≤ p
       → HasMarkedParents os floor flags p
 
-module _ (digest : List ℕ → List ℕ) (os : List Object) (good : AreObjects digest os)
+module _ (digest : List ℕ → List ℕ) (os : List Object) (good : AreHeld digest os)
     (tip : List ℕ) (floor : ℕ) where
   module _ (at : ℕ) (old new : List Bool) (seen : floor + length old ≤ length os)
       (here : IsTrue (is_marked floor old (floor + at))) (w : IsWalk os tip floor (suc at) old)

@@ -5,7 +5,7 @@ use Rattle.std.specs.declared.cmp.Ordering.TheVariants.{Less}
 use Rattle.std.specs.Ordering.{nat_cmp, ordering_then}
 use Rattle.std.specs.Cmp.Lexicographic.{slice_cmp}
 use Rattle.std.specs.FinMap as finmap
-use Rattle.git_model.specs.CommitReading.{commit_read, commit_time}
+use Rattle.git_model.specs.CommitReading.{time_of}
 use Rattle.git_model.specs.Repository.{Object}
 use Rattle.git_model.specs.References.{content_named}
 
@@ -15,7 +15,7 @@ pub record LogKey : Type 0 where
   pub id : List ℕ
 
 abbrev pub log_key : List Object → List ℕ → LogKey
-log_key os id = record { time = commit_time (commit_read (content_named id os).bytes); id = id }
+log_key os id = record { time = time_of (content_named id os).bytes; id = id }
 
 -- Later times come first, and commits of one time by rising name.
 abbrev pub log_cmp : LogKey → LogKey → Ordering

@@ -3,7 +3,7 @@
 ghost use Rattle.std.specs.Prelude.{◌≡◌, ◌+◌, ◌-◌, ◌<◌, ◌≤◌, List, length, slice_index_or, false};
 ghost use Rattle.std.specs.Prelude.{IfOk, IfSome};
 ghost use Rattle.git_model.specs.{Repository.{Object}, References.{object_at}, Reach.{reaches}};
-ghost use Rattle.git_model.specs.GoodRepository.{AreObjects};
+ghost use Rattle.git_model.specs.HeldObjects.{AreHeld};
 ghost use Rattle.commit_walk.specs.{Marks.{IsReached}, Remembered.{Remembers}};
 ghost use Rattle.commit_walk.specs.Remembered.{AreParentPlaces, Tells, IsDoneWalk, HaveParents};
 
@@ -39,7 +39,7 @@ pub struct Ancestry<'a, N: Naming> {
 
 impl<'a, N: Naming> Model for Ancestry<'a, N> {
     ghost use Rattle.std.specs.Prelude.{List};
-    ghost use Rattle.git_model.specs.{Repository.{Object}, GoodRepository.{AreObjects}};
+    ghost use Rattle.git_model.specs.{Repository.{Object}, HeldObjects.{AreHeld}};
     ghost use Rattle.commit_walk.specs.Remembered.{HaveParents, Remembers};
 
     ghost Value = { List Object };
@@ -47,7 +47,7 @@ impl<'a, N: Naming> Model for Ancestry<'a, N> {
     ghost view = { λ w. w.objects };
 
     ghost invariant = { λ w. HaveParents w.objects w.parents
-        × (AreObjects N.digest_of w.objects → Remembers w.objects w.last w.parents) };
+        × (AreHeld N.digest_of w.objects → Remembers w.objects w.last w.parents) };
 }
 
 impl<'a, N: Naming> Ancestry<'a, N> {
@@ -72,11 +72,11 @@ impl<'a, N: Naming> Ancestry<'a, N> {
 
     /// Whether the commit `old` is reachable from the commit `tip`, as `reaches` answers it.
     ///
-    /// The answer is right if the objects are good (`AreObjects` of git_model). `Memory` (90) if
+    /// The answer is right if the objects are held (`AreHeld` of git_model). `Memory` (90) if
     /// there is no room for a walk or for the positions of the parents; the next question is
     /// answered all the same.
     pub fn reaches(&mut self, alloc: Global, tip: &Name, old: &Name) -> Result<bool, Memory>
-        ensures judged { AreObjects N.digest_of self.old
+        ensures judged { AreHeld N.digest_of self.old
             → IfOk result (λ yes. yes ≡ reaches self.old tip.now old.now) }
         ensures same { self.new ≡ self.old }
     {
@@ -97,7 +97,7 @@ impl<'a, N: Naming> Ancestry<'a, N> {
     fn is_reached(&mut self, alloc: Global, place: usize, top: usize) -> Result<bool, Memory>
         requires above { place ≤ top }
         requires within { top < length self.old }
-        ensures tells { AreObjects N.digest_of self.old → IfOk result (Tells self.old top place) }
+        ensures tells { AreHeld N.digest_of self.old → IfOk result (Tells self.old top place) }
         ensures same { self.new ≡ self.old }
     {
         if let Some(yes) = answer_of(&self.last, place, top) {
@@ -165,7 +165,7 @@ fn read_parents<N: Naming>(
     parents: &mut Option<Vec<Vec<usize>>>,
 ) -> Result<(), Memory>
     ensures have { HaveParents objects.now parents.old → HaveParents objects.now parents.new }
-    ensures places { AreObjects N.digest_of objects.now
+    ensures places { AreHeld N.digest_of objects.now
         → IfSome parents.old (λ rows. AreParentPlaces objects.now rows.items)
         → IfSome parents.new (λ rows. AreParentPlaces objects.now rows.items) }
 {
@@ -186,7 +186,7 @@ fn flags_of<N: Naming>(
     requires above { floor ≤ top }
     requires within { top < length objects.now }
     requires parents { HaveParents objects.now parents.now }
-    ensures { AreObjects N.digest_of objects.now
+    ensures { AreHeld N.digest_of objects.now
         → IfSome parents.now (λ rows. AreParentPlaces objects.now rows.items)
         → IfOk result (λ flags.
         IsReached objects.now (object_at top objects.now).id floor flags.items) }

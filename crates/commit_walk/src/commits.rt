@@ -2,7 +2,7 @@
 
 ghost use Rattle.std.specs.Prelude.{◌≡◌, ◌<◌, length, true, false, MatchOption, IfOk};
 ghost use Rattle.git_model.specs.{References.{place_of, object_at, parents_of}, Peeling.{is_of}};
-ghost use Rattle.git_model.specs.GoodRepository.{AreObjects};
+ghost use Rattle.git_model.specs.HeldObjects.{AreHeld};
 
 use crate::lines::parents_in;
 use git_objects::{Kind, Memory, Name, Naming};
@@ -34,7 +34,7 @@ pub fn parents_at<N: Naming>(
     place: usize,
 ) -> Result<Vec<Name>, Memory>
     requires { place < length objects.now }
-    ensures { AreObjects N.digest_of objects.now → IfOk result
+    ensures { AreHeld N.digest_of objects.now → IfOk result
         (λ parents. parents.items ≡ parents_of objects.now (object_at place objects.now).id) }
 {
     let Some((_, kind, contents)) = objects.at(place) else {

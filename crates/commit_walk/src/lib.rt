@@ -13,7 +13,6 @@ mod marks;
 mod parents;
 mod ranges;
 mod reach;
-mod times;
 
 pub use ancestry::Ancestry;
 pub use lines::first_parent_in;

@@ -2,15 +2,13 @@
 
 ghost use Rattle.std.specs.Prelude.{◌≡◌, ◌++◌, ◌∷◌, [], ℕ, ◌<◌, ◌↔◌, List, Bool, length, map};
 ghost use Rattle.std.specs.Prelude.{filter, IfOk, OnOk, IsTrue};
-ghost use Rattle.git_model.specs.Commit.{Commit, CanWriteCommit, commit_contents};
-ghost use Rattle.git_model.specs.{CommitReading.{commit_time}, Repository.{Object}};
-ghost use Rattle.git_model.specs.{References.{object_at}, GoodRepository.{AreObjects}};
+ghost use Rattle.git_model.specs.{CommitReading.{time_of}, Repository.{Object}};
+ghost use Rattle.git_model.specs.{References.{object_at}, HeldObjects.{AreHeld}};
 ghost use Rattle.git_model.specs.Peeling.{is_of};
 ghost use Rattle.commit_walk.specs.Logs.{log_key, log_of, in_log_order, IsLogOf};
 
 use crate::log_key::LogKey;
-use crate::times::time_in;
-use git_objects::{Kind, Memory, Name, Naming};
+use git_objects::{Kind, Memory, Name, Naming, time_of};
 use std::alloc::Global;
 use std::cmp::Reverse;
 use tenant_tables::Objects;
@@ -18,14 +16,14 @@ use tenant_tables::Objects;
 /// The log of the flagged commits: their names by the committer's time from new to old, and commits
 /// of one time by rising name. `flags` has one flag for each object, the oldest object first.
 ///
-/// The answer is right if the objects are good (`AreObjects` of git_model) and only commits are
+/// The answer is right if the objects are held (`AreHeld` of git_model) and only commits are
 /// flagged. `Memory` (90) if there is no room for the log.
 pub fn log_of<N: Naming>(
     alloc: Global,
     objects: &Objects<'_, N>,
     flags: &[bool],
 ) -> Result<Vec<Name>, Memory>
-    ensures { (set : List ℕ → Bool) → AreObjects N.digest_of objects.now
+    ensures { (set : List ℕ → Bool) → AreHeld N.digest_of objects.now
         → flags.now ≡ map (λ o. set o.id) objects.now
         → ((id : List ℕ) → IsTrue (set id) → IsTrue (is_of objects.now Kind.Commit id))
         → IfOk result (λ ids. ids.items ≡ log_of objects.now set) }
@@ -59,7 +57,7 @@ fn keys_of<N: Naming>(
     objects: &Objects<'_, N>,
     flags: &[bool],
 ) -> Result<Vec<LogKey>, Memory>
-    ensures { (set : List ℕ → Bool) → AreObjects N.digest_of objects.now
+    ensures { (set : List ℕ → Bool) → AreHeld N.digest_of objects.now
         → flags.now ≡ map (λ o. set o.id) objects.now
         → ((id : List ℕ) → IsTrue (set id) → IsTrue (is_of objects.now Kind.Commit id))
         → IfOk result (λ keys. keys.items
@@ -81,7 +79,7 @@ pub(crate) fn push_key<N: Naming>(
     place: usize,
     keys: &mut Vec<LogKey>,
 ) -> Result<(), Memory>
-    ensures { AreObjects N.digest_of objects.now → place < length objects.now
+    ensures { AreHeld N.digest_of objects.now → place < length objects.now
         → IsTrue (is_of objects.now Kind.Commit (object_at place objects.now).id)
         → OnOk result (keys.new.items
         ≡ keys.old.items ++ log_key objects.now (object_at place objects.now).id ∷ []) }
@@ -96,11 +94,10 @@ pub(crate) fn push_key<N: Naming>(
 
 // The key of the commit with this name and these contents.
 fn key_in(id: Name, contents: &[u8]) -> LogKey
-    ensures { (c : Commit) → CanWriteCommit c → contents.now ≡ commit_contents c
-        → result ≡ record { time = commit_time c; id = id } }
+    ensures { result ≡ record { time = time_of contents.now; id = id } }
 {
     LogKey {
-        newest: Reverse(time_in(contents)),
+        newest: Reverse(time_of(contents)),
         id,
     }
 }

@@ -1,7 +1,7 @@
 //! The positions of the parents of commits, for walks that go over them again and again.
 
 ghost use Rattle.std.specs.Prelude.{◌≡◌, ◌<◌, length, IfOk};
-ghost use Rattle.git_model.specs.{References.{object_at}, GoodRepository.{AreObjects}};
+ghost use Rattle.git_model.specs.{References.{object_at}, HeldObjects.{AreHeld}};
 ghost use Rattle.commit_walk.specs.Remembered.{AreParentPlaces, parent_places};
 
 use crate::commits::parents_at;
@@ -16,7 +16,7 @@ pub(crate) fn parent_places<N: Naming>(
     objects: &Objects<'_, N>,
 ) -> Result<Vec<Vec<usize>>, Memory>
     ensures size { IfOk result (λ rows. length rows.items ≡ length objects.now) }
-    ensures places { AreObjects N.digest_of objects.now
+    ensures places { AreHeld N.digest_of objects.now
         → IfOk result (λ rows. AreParentPlaces objects.now rows.items) }
 {
     let count = objects.len();
@@ -35,7 +35,7 @@ fn places_at<N: Naming>(
     place: usize,
 ) -> Result<Vec<usize>, Memory>
     requires { place < length objects.now }
-    ensures { AreObjects N.digest_of objects.now → IfOk result (λ row. row.items
+    ensures { AreHeld N.digest_of objects.now → IfOk result (λ row. row.items
         ≡ parent_places objects.now (object_at place objects.now).id) }
 {
     let ids = parents_at(alloc, objects, place)?;

@@ -6,7 +6,7 @@
 
 ghost use Rattle.std.specs.Prelude.{◌≡◌, ◌≤◌, ◌<◌, ◌&&◌, ◌||◌, not, [], ◌∷◌, true, false, All};
 ghost use Rattle.std.specs.Prelude.{get_or, length, replicate, IfOk};
-ghost use Rattle.git_model.specs.{References.{place_of}, GoodRepository.{AreObjects}};
+ghost use Rattle.git_model.specs.{References.{place_of}, HeldObjects.{AreHeld}};
 ghost use Rattle.git_model.specs.{Peeling.{is_of}, Reach.{reaches}};
 ghost use Rattle.commit_walk.specs.{Logs.{log_of, AreKeysOf}, Marks.{MarksIf}};
 ghost use Rattle.commit_walk.specs.Ranges.{is_apart, is_apart_in};
@@ -22,7 +22,7 @@ use tenant_tables::Objects;
 /// The log of the commits that are reachable from `tip` and not from `old`, `OLD..TIP`: their names
 /// in the order of `log_of`. A name that is not that of a commit reaches nothing.
 ///
-/// The answer is right if the objects are good (`AreObjects` of git_model). `Memory` (90) if there
+/// The answer is right if the objects are held (`AreHeld` of git_model). `Memory` (90) if there
 /// is no room for the walk or for the log.
 pub fn log_between<N: Naming>(
     alloc: Global,
@@ -30,7 +30,7 @@ pub fn log_between<N: Naming>(
     old: &Name,
     tip: &Name,
 ) -> Result<Vec<Name>, Memory>
-    ensures { AreObjects N.digest_of objects.now → IfOk result (λ ids. ids.items
+    ensures { AreHeld N.digest_of objects.now → IfOk result (λ ids. ids.items
         ≡ log_of objects.now (λ id.
         reaches objects.now tip.now id && not (reaches objects.now old.now id))) }
 {
@@ -41,7 +41,7 @@ pub fn log_between<N: Naming>(
 /// `LEFT...RIGHT`, the symmetric difference: their names in the order of `log_of`. A name that is
 /// not that of a commit reaches nothing.
 ///
-/// The answer is right if the objects are good (`AreObjects` of git_model). `Memory` (90) if there
+/// The answer is right if the objects are held (`AreHeld` of git_model). `Memory` (90) if there
 /// is no room for the walk or for the log.
 pub fn log_of_either<N: Naming>(
     alloc: Global,
@@ -49,7 +49,7 @@ pub fn log_of_either<N: Naming>(
     left: &Name,
     right: &Name,
 ) -> Result<Vec<Name>, Memory>
-    ensures { AreObjects N.digest_of objects.now → IfOk result (λ ids. ids.items
+    ensures { AreHeld N.digest_of objects.now → IfOk result (λ ids. ids.items
         ≡ log_of objects.now (λ id.
         (reaches objects.now left.now id && not (reaches objects.now right.now id))
         || (reaches objects.now right.now id && not (reaches objects.now left.now id)))) }
@@ -64,7 +64,7 @@ fn log_apart<N: Naming>(
     left: &Name,
     right: &Name,
 ) -> Result<Vec<Name>, Memory>
-    ensures { AreObjects N.digest_of objects.now → IfOk result (λ ids. ids.items
+    ensures { AreHeld N.digest_of objects.now → IfOk result (λ ids. ids.items
         ≡ log_of objects.now (is_apart_in objects.now symmetric left.now right.now)) }
 {
     let mut left_flags = vec![in alloc; false; objects.len()]?;
@@ -101,7 +101,7 @@ fn keys_apart<N: Naming>(
 ) -> Result<Vec<LogKey>, Memory>
     requires blank_left { left_flags.old ≡ replicate (length objects.now) false }
     requires blank_right { right_flags.old ≡ replicate (length objects.now) false }
-    ensures { AreObjects N.digest_of objects.now → IfOk result (λ keys. AreKeysOf objects.now
+    ensures { AreHeld N.digest_of objects.now → IfOk result (λ keys. AreKeysOf objects.now
         (is_apart_in objects.now symmetric left.now right.now) keys.items) }
 {
     let left_top = flag_tip(objects, left, left_flags);

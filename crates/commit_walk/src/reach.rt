@@ -2,7 +2,7 @@
 
 ghost use Rattle.std.specs.Prelude.{◌≡◌, ◌+◌, ◌-◌, ◌<◌, ◌≤◌, ℕ, List, length, map, replicate};
 ghost use Rattle.std.specs.Prelude.{false, IfOk, OnOk};
-ghost use Rattle.git_model.specs.{References.{object_at, parents_of}, GoodRepository.{AreObjects}};
+ghost use Rattle.git_model.specs.{References.{object_at, parents_of}, HeldObjects.{AreHeld}};
 ghost use Rattle.git_model.specs.{Reach.{reaches}, Repository.{Object}};
 ghost use Rattle.tenant_tables.specs.{Objects.{objects}, IsBackedBy.{IsBackedBy}};
 ghost use Rattle.commit_walk.specs.{Marks.{Marks, IsReached}, Remembered.{AreParentPlaces}};
@@ -20,7 +20,7 @@ use tenant_tables::{Objects, Sight, Table};
 /// names is not that of a commit in the table.
 ///
 /// The pool must be the one that holds the contents of the table. The answer is right if the
-/// objects of the table are good (`AreObjects` of git_model). The walk reads only commits after
+/// objects of the table are held (`AreHeld` of git_model). The walk reads only commits after
 /// `old`. `Memory` (90) if there is no room for the walk.
 pub fn reaches<N: Naming>(
     alloc: Global,
@@ -31,7 +31,7 @@ pub fn reaches<N: Naming>(
 ) -> Result<bool, Memory>
     requires { IsBackedBy N.digest_of pool.now table.now.entries }
     ensures { let os = objects pool.now table.now.entries in
-        AreObjects N.digest_of os → IfOk result (λ yes. yes ≡ reaches os tip.now old.now) }
+        AreHeld N.digest_of os → IfOk result (λ yes. yes ≡ reaches os tip.now old.now) }
 {
     let mut ancestry = Ancestry::of(Objects::of(pool, table, Sight::All));
     let is_reached = ancestry.reaches(alloc, tip, old)?;
@@ -41,7 +41,7 @@ pub fn reaches<N: Naming>(
 /// Which objects are commits that are reachable from the commit `tip`: one flag for each object,
 /// the oldest object first. All are `false` if the name is not that of a commit.
 ///
-/// The answer is right if the objects are good (`AreObjects` of git_model). `Memory` (90) if there
+/// The answer is right if the objects are held (`AreHeld` of git_model). `Memory` (90) if there
 /// is no room for the walk.
 pub fn reached_from<N: Naming>(
     alloc: Global,
@@ -49,7 +49,7 @@ pub fn reached_from<N: Naming>(
     tip: &Name,
 ) -> Result<Vec<bool>, Memory>
     ensures size { IfOk result (λ flags. length flags.items ≡ length objects.now) }
-    ensures reached { AreObjects N.digest_of objects.now → IfOk result
+    ensures reached { AreHeld N.digest_of objects.now → IfOk result
         (λ flags. flags.items ≡ map (λ o. reaches objects.now tip.now o.id) objects.now) }
 {
     let mut flags = vec![in alloc; false; objects.len()]?;
@@ -65,7 +65,7 @@ fn mark_reached<N: Naming>(
     flags: &mut [bool],
 ) -> Result<(), Memory>
     requires { flags.old ≡ replicate (length objects.now) false }
-    ensures { AreObjects N.digest_of objects.now → OnOk result
+    ensures { AreHeld N.digest_of objects.now → OnOk result
         (flags.new ≡ map (λ o. reaches objects.now tip.now o.id) objects.now) }
 {
     let Some(top) = commit_place(objects, tip) else {
@@ -87,7 +87,7 @@ pub(crate) fn walk<N: Naming>(
     requires within { top < floor + length flags.old }
     requires there { floor + length flags.old ≤ length objects.now }
     requires blank { flags.old ≡ replicate (length flags.old) false }
-    ensures { AreObjects N.digest_of objects.now → OnOk result
+    ensures { AreHeld N.digest_of objects.now → OnOk result
         (IsReached objects.now (object_at top objects.now).id floor flags.new) }
 {
     flags[top - floor] = true;
@@ -110,7 +110,7 @@ fn mark_parents<N: Naming>(
     flags: &mut [bool],
 ) -> Result<(), Memory>
     requires { place < length objects.now }
-    ensures { AreObjects N.digest_of objects.now → OnOk result (Marks objects.now floor flags.old
+    ensures { AreHeld N.digest_of objects.now → OnOk result (Marks objects.now floor flags.old
         flags.new (parents_of objects.now (object_at place objects.now).id)) }
 {
     let parents = parents_at(alloc, objects, place)?;
@@ -124,7 +124,7 @@ pub(crate) fn walk_by(parents: &[Vec<usize>], floor: usize, top: usize, flags: &
     requires within { top < floor + length flags.old }
     requires there { floor + length flags.old ≤ length parents.now }
     requires blank { flags.old ≡ replicate (length flags.old) false }
-    ensures { (digest : List ℕ → List ℕ) (os : List Object) → AreObjects digest os
+    ensures { (digest : List ℕ → List ℕ) (os : List Object) → AreHeld digest os
         → AreParentPlaces os parents.now
         → IsReached os (object_at top os).id floor flags.new }
 {

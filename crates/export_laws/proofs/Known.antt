@@ -7,6 +7,7 @@ use Rattle.std.specs.Str.{bytes_eq}
 use Rattle.std.proofs.lemmas.Bool.{cases_Bool, or_cases, or_left, or_right}
 use Rattle.std.proofs.lemmas.List.{length-append}
 use Rattle.std.proofs.lemmas.List.Elements.{All-contains, recursion_from_All}
+use Rattle.git_model.proofs.Readables.{objects_are}
 use Rattle.git_model.specs.Content.{Content, no_content}
 use Rattle.git_model.specs.GoodRepository.{AreObjects, IsObject, StandsBefore}
 use Rattle.git_model.specs.Reach.{Reaches, is_reachable, is_referred_to}
@@ -135,10 +136,10 @@ module _ (digest : List ℕ → List ℕ) (repository : Repository) (good : AreO
       → is_reachable repository.objects leads from id ≡ true
       → is_reachable repository.objects leads from next ≡ true
   one-further from id next among h =
-      (least leads (λ x. place_of x repository.objects) (references_fall digest repository.objects good)
+      (least leads (λ x. place_of x repository.objects) (references_fall digest repository.objects (objects_are digest repository.objects good))
       (length repository.objects) from next (place_within from repository.objects)).1
       (onward leads from id next
-      ((least leads (λ x. place_of x repository.objects) (references_fall digest repository.objects good)
+      ((least leads (λ x. place_of x repository.objects) (references_fall digest repository.objects (objects_are digest repository.objects good))
       (length repository.objects) from id (place_within from repository.objects)).0 h) among)
 
   next-reached : (id next : List ℕ) → is_referred_to repository id ≡ true → Contains (leads id) next

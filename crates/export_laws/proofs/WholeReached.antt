@@ -5,6 +5,7 @@ use Rattle.std.specs.List.{AllByRecursion, list_any}
 use Rattle.std.specs.Option.{option_map}
 use Rattle.std.proofs.lemmas.Bool.{false≢true, or_cases}
 use Rattle.std.proofs.lemmas.List.Elements.{All-map, All-weaker}
+use Rattle.git_model.proofs.Readables.{objects_are}
 use Rattle.git_model.specs.declared.kind.Kind.{Kind}
 use Rattle.git_model.specs.declared.kind.Kind.TheVariants as kind
 use Rattle.git_model.specs.Content.{Content, no_content}
@@ -78,7 +79,7 @@ module _ (digest : List ℕ → List ℕ) (repository : Repository)
   reaches-is : (from to : List ℕ) → is_reachable repository.objects leads from to ≡ true
       → Reaches leads from to
   reaches-is from to =
-      (least leads (λ x. place_of x repository.objects) (references_fall digest repository.objects good)
+      (least leads (λ x. place_of x repository.objects) (references_fall digest repository.objects (objects_are digest repository.objects good))
       (length repository.objects) from to (place_within from repository.objects)).0
 
   from-refs : (id : List ℕ) (listed : List (List ℕ × List ℕ))

@@ -8,7 +8,7 @@ use Rattle.std.proofs.lemmas.List.Elements.{All-nil, All-cons, All-contains, All
 use Rattle.git_model.specs.Content.{Content, no_content}
 use Rattle.git_model.specs.Repository.{Object}
 use Rattle.git_model.specs.References.{references_in, referred_by, place_of, object_at}
-use Rattle.git_model.specs.GoodRepository.{AreObjects}
+use Rattle.git_model.specs.HeldObjects.{AreHeld}
 use Rattle.git_model.specs.Reach.{Reaches, is_reachable}
 use Rattle.git_model.proofs.Least.{least}
 use Rattle.git_model.proofs.Earlier.{place_within, references_fall}
@@ -181,12 +181,12 @@ module _ (os : List Object) where
     ];
   }
 
-module _ (digest : List ℕ → List ℕ) (os : List Object) (good : AreObjects digest os) (n : ℕ)
+module _ (digest : List ℕ → List ℕ) (os : List Object) (held : AreHeld digest os) (n : ℕ)
     (within : n < length os) where
   falls : All (λ q. place_of q os < n) (referred_by os (object_at n os).id)
   falls =
       subst (λ (m : ℕ). All (λ q. place_of q os < m) (referred_by os (object_at n os).id))
-      (good.distinct n within) (references_fall digest os good (object_at n os).id)
+      (held.distinct n within) (references_fall digest os held (object_at n os).id)
 
   below : (p : ℕ) → n ≤ p → IsOne os (referred_by os (object_at n os).id) p → ⊥
   below p from one =
@@ -222,11 +222,11 @@ module _ (digest : List ℕ → List ℕ) (os : List Object) (good : AreObjects 
 
 -- ---- what is led to is what is reached
 
-module _ (digest : List ℕ → List ℕ) (os : List Object) (good : AreObjects digest os) where
+module _ (digest : List ℕ → List ℕ) (os : List Object) (held : AreHeld digest os) where
   by_least : (from id : List ℕ)
       → IsTrue (is_reachable os (referred_by os) from id) ↔ Reaches (referred_by os) from id
   by_least from id =
-      least (referred_by os) (λ x. place_of x os) (references_fall digest os good) (length os) from id
+      least (referred_by os) (λ x. place_of x os) (references_fall digest os held) (length os) from id
       (place_within from os)
 
   -- Some name of a list reaches what the list leads to, and no other.

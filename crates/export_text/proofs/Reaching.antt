@@ -7,7 +7,7 @@ use Rattle.std.proofs.lemmas.List.Elements.{All-nil, All-contains}
 use Rattle.git_model.specs.RefStore.{listed_refs}
 use Rattle.git_model.specs.Repository.{Object, Repository}
 use Rattle.git_model.specs.References.{referred_by, place_of, object_at, no_object}
-use Rattle.git_model.specs.GoodRepository.{AreObjects}
+use Rattle.git_model.specs.HeldObjects.{AreHeld}
 use Rattle.git_model.specs.Reach.{IsClosed, is_reachable, is_referred_to}
 use Rattle.commit_walk.proofs.Named.{there}
 use Rattle.export_text.specs.Marking.{with_flags, reached_flags}
@@ -19,7 +19,7 @@ walked os zero flags = flags
 walked os (suc n) flags =
     walked os n (cond (get_or flags n false) (with_flags os flags (referred_by os (object_at n os).id)) flags)
 
-module _ (digest : List ℕ → List ℕ) (os : List Object) (good : AreObjects digest os)
+module _ (digest : List ℕ → List ℕ) (os : List Object) (held : AreHeld digest os)
     (starts : List (List ℕ)) where
   -- a walk that has looked at the places from n on
   record IsWalk (n : ℕ) (flags : List Bool) : Type 0 where
@@ -42,12 +42,12 @@ module _ (digest : List ℕ → List ℕ) (os : List Object) (good : AreObjects 
 
     stepped : n < length os → get_or flags n false ≡ true → IsWalk n (with_flags os flags ids)
     stepped within on = record {
-      led = led-more digest os good n within starts flags on w.led;
+      led = led-more digest os held n within starts flags on w.led;
       done = λ p from h. elim (cases_eq n p) [
         | inl same ↦ subst (λ (q : ℕ). All (IsOn os (with_flags os flags ids)) (referred_by os (object_at q os).id)) same
             (all_on os ids flags)
         | inr other ↦ stays_on os ids flags (referred_by os (object_at p os).id)
-            (w.done p (omega arith) (sym (same_above digest os good n within flags p from) ∙ h))
+            (w.done p (omega arith) (sym (same_above digest os held n within flags p from) ∙ h))
       ];
     }
 
@@ -88,27 +88,27 @@ module _ (digest : List ℕ → List ℕ) (os : List Object) (good : AreObjects 
       let on = l.reaches.in_each (λ id. get_or flags (place_of id os) true)
       (All-contains (IsOn os flags) starts l.from w.led.begun l.among) (closed flags w) in
       sym (on_either flags p (let s = w.led.size in omega arith))
-      ∙ (rw (good.distinct p lt) at on)
+      ∙ (rw (held.distinct p lt) at on)
 
   told : (flags : List Bool) → IsWalk 0 flags → (p : ℕ) → p < length os
       → get_or flags p false
       ≡ list_any (λ name. is_reachable os (referred_by os) name (object_at p os).id) starts
   told flags w p lt =
-      same_test _ _ (λ on. led-any digest os good starts (object_at p os).id (w.led.only p on))
-      (λ e. every flags w p lt (any-led digest os good (object_at p os).id starts e))
+      same_test _ _ (λ on. led-any digest os held starts (object_at p os).id (w.led.only p on))
+      (λ e. every flags w p lt (any-led digest os held (object_at p os).id starts e))
 
-any-held : {A B : Type 0} (test : B → Bool) (f : A → B) (xs : List A)
+any-target : {A B : Type 0} (test : B → Bool) (f : A → B) (xs : List A)
     → list_any test (map f xs) ≡ list_any (λ x. test (f x)) xs
-any-held test f [] = refl
-any-held test f (x ∷ xs) = rw (any-held test f xs) refl
+any-target test f [] = refl
+any-target test f (x ∷ xs) = rw (any-target test f xs) refl
 
 module _ (digest : List ℕ → List ℕ) (repository : Repository)
-    (good : AreObjects digest repository.objects) where
-  abbrev held : List (List ℕ)
-  held = map (λ (ref : List ℕ × List ℕ). ref.1) (listed_refs repository.refs)
+    (held : AreHeld digest repository.objects) where
+  abbrev targets : List (List ℕ)
+  targets = map (λ (ref : List ℕ × List ℕ). ref.1) (listed_refs repository.refs)
 
   abbrev Walked : List Bool → Type 0
-  Walked flags = IsWalk digest repository.objects good held 0 flags
+  Walked flags = IsWalk digest repository.objects held targets 0 flags
 
   all_told : (flags : List Bool) → Walked flags → flags ≡ reached_flags repository
   unfolding object_at is_referred_to
@@ -117,16 +117,16 @@ module _ (digest : List ℕ → List ℕ) (repository : Repository)
       (w.led.size ∙ sym (length-map repository.objects (λ (o : Object). is_referred_to repository o.id)))
       (λ p lt.
       let within : p < length repository.objects = let s = w.led.size in omega arith in
-      told digest repository.objects good held flags w p within
-      ∙ any-held (λ name. is_reachable repository.objects (referred_by repository.objects) name (object_at p repository.objects).id) (λ (ref : List ℕ × List ℕ). ref.1) (listed_refs repository.refs)
+      told digest repository.objects held targets flags w p within
+      ∙ any-target (λ name. is_reachable repository.objects (referred_by repository.objects) name (object_at p repository.objects).id) (λ (ref : List ℕ × List ℕ). ref.1) (listed_refs repository.refs)
       ∙ sym (get_or-map (λ (o : Object). is_referred_to repository o.id) repository.objects p no_object false within))
 
   pub walk_reaches : (flags : List Bool) → flags ≡ replicate (length repository.objects) false
-      → walked repository.objects (length repository.objects) (with_flags repository.objects flags held)
+      → walked repository.objects (length repository.objects) (with_flags repository.objects flags targets)
       ≡ reached_flags repository
   walk_reaches flags blank =
-      all_told _ (ended digest repository.objects good held (length repository.objects) _
-      (begun digest repository.objects good held flags blank))
+      all_told _ (ended digest repository.objects held targets (length repository.objects) _
+      (begun digest repository.objects held targets flags blank))
 
 -- ---- one place down
 

@@ -4,7 +4,7 @@
 //! and reads each reached object once.
 
 ghost use Rattle.std.specs.Prelude.{◌≡◌, length, map, replicate, false, IfOk, OnOk};
-ghost use Rattle.git_model.specs.{GoodRepository.{AreObjects}, RefStore.{listed_refs}};
+ghost use Rattle.git_model.specs.{HeldObjects.{AreHeld}, RefStore.{listed_refs}};
 ghost use Rattle.export_text.specs.Marking.{with_flags, reached_flags};
 
 use crate::marking::{mark, mark_all};
@@ -35,7 +35,7 @@ fn walk<N: Naming>(
     flags: &mut [bool],
 ) -> Result<(), Memory>
     requires blank { flags.old ≡ replicate (length objects.now) false }
-    ensures { AreObjects N.digest_of objects.now → OnOk result
+    ensures { AreHeld N.digest_of objects.now → OnOk result
         (flags.new ≡ reached_flags (record { objects = objects.now; refs = refs.now })) }
 {
     mark_targets(objects, refs, flags);
@@ -52,7 +52,7 @@ fn walk<N: Naming>(
 
 /// Which of the objects the refs reach: a flag for each, the oldest object first.
 ///
-/// The answer is right where the objects are good (AreObjects of git_model). `Memory` (90) where
+/// The answer is right where the objects are held (`AreHeld` of git_model). `Memory` (90) where
 /// there is no room for the flags or to read what is reached.
 pub fn reached<N: Naming>(
     alloc: Global,
@@ -60,7 +60,7 @@ pub fn reached<N: Naming>(
     refs: &Refs,
 ) -> Result<Vec<bool>, Memory>
     ensures size { IfOk result (λ flags. length flags.items ≡ length objects.now) }
-    ensures reached { AreObjects N.digest_of objects.now → IfOk result
+    ensures reached { AreHeld N.digest_of objects.now → IfOk result
         (λ flags. flags.items ≡ reached_flags (record { objects = objects.now; refs = refs.now })) }
 {
     let mut flags = vec![in alloc; false; objects.len()]?;

@@ -1,30 +1,30 @@
 -- The contents of a commit are read back.
-use Rattle.std.proofs.Common.{◌≡◌, ℕ, List, [], ◌∷◌, ◌++◌, map, refl, sym, ap, ◌∙◌, append_assoc, append-nil, Option, None, Some, All, IfSome, codes}
+use Rattle.std.proofs.Common.{◌≡◌, ℕ, List, [], ◌∷◌, ◌++◌, map, refl, sym, ap, ◌∙◌, append_assoc, drop, Option, None, Some, All, IfSome, codes}
 use Rattle.std.specs.Prelude.{filter_map, slice_get, unwrap_or}
 use Rattle.std.specs.List.{AllByRecursion, cons_option, flat_map}
 use Rattle.std.proofs.lemmas.List.Elements.{All-head, All-tail}
 use Rattle.hex.specs.Hex.{encode_lower}
 use Rattle.git_model.specs.ObjectName.{IsObjectName}
 use Rattle.git_model.specs.Commit.{Commit, CanWriteCommit, IsEncoding, commit_contents, line, name_line, optional_line}
-use Rattle.git_model.specs.HeaderReading.{after_word, values_of, id_of_digits}
-use Rattle.git_model.specs.CommitReading.{commit_read}
+use Rattle.git_model.specs.HeaderReading.{after_word, leading_values, values_of, id_of_digits}
+use Rattle.git_model.specs.CommitReading.{commit_read, parent_values}
 use Rattle.git_model.proofs.OneLine.{digits_one_line, ident_one_line}
-use Rattle.git_model.proofs.HeaderLines.{IsLine, worded, lines_text, first_line_text, message_back, values_back, named_back}
+use Rattle.git_model.proofs.HeaderLines.{IsLine, worded, lines_text, first_line_text, lines_back, message_back, values_back, named_back}
 
 -- ---- the lines of its header
 
-abbrev parent_text : List ℕ → List ℕ
+abbrev pub parent_text : List ℕ → List ℕ
 parent_text id = codes "parent " ++ encode_lower id
 
-abbrev encoding_lines : Option (List ℕ) → List (List ℕ)
+abbrev pub encoding_lines : Option (List ℕ) → List (List ℕ)
 encoding_lines None = []
 encoding_lines (Some text) = (codes "encoding " ++ text) ∷ []
 
-abbrev last_lines : Commit → List (List ℕ)
+abbrev pub last_lines : Commit → List (List ℕ)
 last_lines c =
     (codes "author " ++ c.author) ∷ (codes "committer " ++ c.committer) ∷ encoding_lines c.encoding
 
-abbrev lines_of : Commit → List (List ℕ)
+abbrev pub lines_of : Commit → List (List ℕ)
 lines_of c = (codes "tree " ++ encode_lower c.tree) ∷ map parent_text c.parents ++ last_lines c
 
 parents_text : (ps : List (List ℕ)) (ts : List (List ℕ)) (m : List ℕ)
@@ -60,7 +60,7 @@ regroup : (tree parents author committer encoding message : List ℕ)
     (encoding ++ message)))) ≡ tree ++ parents ++ author ++ committer ++ encoding ++ message
 regroup tree parents author committer encoding message = simp append_assoc
 
-text_is : (c : Commit) → commit_contents c ≡ lines_text (lines_of c) c.message
+pub text_is : (c : Commit) → commit_contents c ≡ lines_text (lines_of c) c.message
 text_is c =
     sym (first_line_text (codes "tree " ++ encode_lower c.tree)
     (map parent_text c.parents ++ last_lines c) c.message
@@ -88,7 +88,7 @@ encoding_is : (encoding : Option (List ℕ)) → IfSome encoding IsEncoding
 encoding_is None h = tt
 encoding_is (Some text) h = (worded (codes "encoding ") text (λ e. cc e) refl h.one_line, tt)
 
-lines_are : (c : Commit) → CanWriteCommit c → AllByRecursion IsLine (lines_of c)
+pub lines_are : (c : Commit) → CanWriteCommit c → AllByRecursion IsLine (lines_of c)
 lines_are c h = (
   worded (codes "tree ") (encode_lower c.tree) (λ e. cc e) refl (digits_one_line c.tree h.tree),
   parents_are c.parents (last_lines c) h.parents (
@@ -113,16 +113,20 @@ past_parents word other (p ∷ ps) ts =
     (filter_map (after_word word) (map parent_text ps ++ ts))) (other p)
     ∙ past_parents word other ps ts
 
-of_parents : (ps ts : List (List ℕ))
-    → filter_map (after_word (codes "parent "))
-    (map parent_text ps ++ ts) ≡ map encode_lower ps ++ filter_map (after_word (codes "parent ")) ts
-of_parents [] ts = refl
-of_parents (p ∷ ps) ts = ap (λ (l : List (List ℕ)). encode_lower p ∷ l) (of_parents ps ts)
+-- the author's line follows the last parent's
+of_parents : (ps : List (List ℕ)) (c : Commit)
+    → leading_values (codes "parent ") (map parent_text ps ++ last_lines c) ≡ map encode_lower ps
+unfolding leading_values
+of_parents [] c = refl
+of_parents (p ∷ ps) c = ap (λ (l : List (List ℕ)). encode_lower p ∷ l) (of_parents ps c)
 
-no_parent : (encoding : Option (List ℕ))
-    → filter_map (after_word (codes "parent ")) (encoding_lines encoding) ≡ []
-no_parent None = refl
-no_parent (Some text) = refl
+pub parents_are_led : (c : Commit) → CanWriteCommit c
+    → parent_values (lines_text (lines_of c) c.message) ≡ map encode_lower c.parents
+unfolding parent_values
+parents_are_led c h =
+    ap (λ (l : List (List ℕ)). leading_values (codes "parent ") (drop 1 l))
+    (lines_back (lines_of c) c.message (lines_are c h))
+    ∙ of_parents c.parents c
 
 parents_back : (ps : List (List ℕ)) → All IsObjectName ps
     → map id_of_digits (map encode_lower ps) ≡ ps
@@ -145,10 +149,7 @@ commit_back c h =
     λ word. values_back word (lines_of c) c.message lines in
     let tree = ap (λ (l : List (List ℕ)). unwrap_or (slice_get (map id_of_digits l) 0) [])
     (values (codes "tree ")) ∙ named_back c.tree h.tree in
-    let parents = ap (map id_of_digits)
-    (values (codes "parent ") ∙ of_parents c.parents (last_lines c)
-    ∙ ap (λ (l : List (List ℕ)). map encode_lower c.parents ++ l) (no_parent c.encoding)
-    ∙ append-nil (map encode_lower c.parents))
+    let parents = ap (map id_of_digits) (parents_are_led c h)
     ∙ parents_back c.parents h.parents in
     let author = ap (λ (l : List (List ℕ)). unwrap_or (slice_get l 0) [])
     (values (codes "author ") ∙ past_parents (codes "author ") (λ id. refl) c.parents

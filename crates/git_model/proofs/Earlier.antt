@@ -1,4 +1,4 @@
--- Among good objects what an object refers to stands before it: its parents, and what it leads to
+-- Among held objects what an object refers to stands before it: its parents, and what it leads to
 -- where it is peeled.
 use Rattle.std.proofs.Common.{◌≡◌, ℕ, ◌<◌, ◌≤◌, List, [], ◌∷◌, length, map, All, Option, None, Some, refl, subst}
 use Rattle.std.specs.Prelude.{unwrap_or}
@@ -12,7 +12,8 @@ use Rattle.git_model.specs.TagReading.{tag_read}
 use Rattle.git_model.specs.Content.{Content, no_content}
 use Rattle.git_model.specs.Repository.{Object, object_named}
 use Rattle.git_model.specs.References.{Reference, reference, references_of, references_in, content_named, parents_in, parents_of, referred_by, place_of}
-use Rattle.git_model.specs.GoodRepository.{StandsBefore, AreObjects}
+use Rattle.git_model.specs.GoodRepository.{StandsBefore}
+use Rattle.git_model.specs.HeldObjects.{AreHeld}
 use Rattle.git_model.specs.Peeling.{tree_if_wanted, next_from, next_to}
 use Rattle.git_model.proofs.Places.{stands_at}
 
@@ -27,14 +28,14 @@ pub place_within : (id : List ℕ) (os : List Object) → place_of id os ≤ len
 unfolding place_of
 place_within id os = prefix_len-le-length _ os
 
-module _ (digest : List ℕ → List ℕ) (os : List Object) (good : AreObjects digest os) where
+module _ (digest : List ℕ → List ℕ) (os : List Object) (held : AreHeld digest os) where
   refers : (id : List ℕ) (o : Option Content) → object_named id os ≡ o
       → All (StandsBefore os (place_of id os)) (references_in (unwrap_or o no_content))
   refers id None e = All-nil (StandsBefore os (place_of id os))
   refers id (Some c) e =
       let at = stands_at id os c e in
       subst (λ (o : Object). All (StandsBefore os (place_of id os))
-      (references_in o.content)) at.object (good.connected (place_of id os) at.within)
+      (references_in o.content)) at.object (held.connected (place_of id os) at.within)
 
   -- ---- parents, and all that an object refers to
 

@@ -1,4 +1,4 @@
--- Good objects stay good where one more is added, and so do those of a prefix.
+-- Good objects stay good where one more is added, and so do those of a prefix; held objects likewise.
 use Rattle.std.proofs.Common.{◌≡◌, ◌≢◌, ℕ, suc, ◌<◌, ◌≤◌, true, false, List, [], ◌∷◌, ◌++◌, length, take, drop, All, Option, None, Some, refl, sym, ap, ◌∙◌, subst, inl, inr, arith}
 use Rattle.std.specs.Prelude.{unwrap_or}
 use Rattle.std.specs.Option.{option_map}
@@ -17,6 +17,7 @@ use Rattle.git_model.specs.TreeReading.{tree_read}
 use Rattle.git_model.specs.Repository.{Object, object_named}
 use Rattle.git_model.specs.References.{Reference, reference, tree_references, references_of, references_in, no_object, content_named, place_of, object_at}
 use Rattle.git_model.specs.GoodRepository.{IsTree, IsValid, IsObject, StandsBefore, AreObjects, MayAdd}
+use Rattle.git_model.specs.HeldObjects.{IsHeldObject, AreHeld, MayPut}
 use Rattle.git_model.proofs.TreeReadings.{tree_back}
 use Rattle.git_model.proofs.Places.{stands_at, at_place, of_entries, first_place, later_place, first_named, later_named, first_object, later_object}
 
@@ -155,6 +156,49 @@ before_longer : (xs ys : List Object) (i : ℕ) → i ≤ length xs → (r : Ref
 before_longer xs ys i le r h =
     still_before xs (xs ++ ys) i r (longer r.id xs ys (let b = h.before in omega arith)) h
 
+-- Each name is that of one object only, and what an object refers to comes before it.
+abbrev AreDistinct : List Object → Type 0
+AreDistinct os = (i : ℕ) → i < length os → place_of (object_at i os).id os ≡ i
+
+abbrev AreConnected : List Object → Type 0
+AreConnected os = (i : ℕ) → i < length os → All (StandsBefore os i) (references_in (object_at i os).content)
+
+distinct_longer : (os : List Object) (o : Object) → AreDistinct os → object_named o.id os ≡ None
+    → AreDistinct (os ++ o ∷ [])
+distinct_longer os o distinct new i lt = elim (cases_lt i (length os)) [
+  | inl old ↦
+      let at = distinct i old in
+      ap (λ (x : Object). place_of x.id (os ++ o ∷ [])) (same_object os (o ∷ []) i old)
+      ∙ (longer (object_at i os).id os (o ∷ []) (omega (arith, at))).place ∙ at
+  | inr end ↦
+      let is : i ≡ length os = omega (arith, length-append os (o ∷ [])) in
+      ap (λ (n : ℕ). place_of (object_at n (os ++ o ∷ [])).id (os ++ o ∷ [])) is
+      ∙ ap (λ (x : Object). place_of x.id (os ++ o ∷ [])) (last_object os o)
+      ∙ new_place o os new ∙ sym is
+]
+
+connected_longer : (os : List Object) (o : Object) → AreConnected os
+    → All (StandsBefore os (length os)) (references_in o.content) → AreConnected (os ++ o ∷ [])
+connected_longer os o connected new i lt = elim (cases_lt i (length os)) [
+  | inl old ↦
+      subst (λ (x : Object). All (StandsBefore more i) (references_in x.content))
+      (sym (same_object os (o ∷ []) i old))
+      (All-weaker (StandsBefore os i) (StandsBefore more i)
+      (before_longer os (o ∷ []) i (omega arith)) (references_in (object_at i os).content)
+      (connected i old))
+  | inr end ↦
+      let is : length os ≡ i = omega (arith, length-append os (o ∷ [])) in
+      subst (λ (n : ℕ). All (StandsBefore more n) (references_in (object_at n more).content)) is
+      (subst (λ (x : Object). All (StandsBefore more (length os)) (references_in x.content))
+      (sym (last_object os o))
+      (All-weaker (StandsBefore os (length os)) (StandsBefore more (length os))
+      (before_longer os (o ∷ []) (length os) (omega arith))
+      (references_in o.content) new))
+]
+  where
+    more : List Object
+    more = os ++ o ∷ []
+
 pub one_more : (digest : List ℕ → List ℕ) (os : List Object) (o : Object) → AreObjects digest os
     → MayAdd digest os o → AreObjects digest (os ++ o ∷ [])
 one_more digest os o good add = record {
@@ -163,38 +207,23 @@ one_more digest os o good add = record {
       (object_longer digest os (o ∷ [])) os good.each)
       (All-cons (IsObject digest more) o [] (object_longer digest os (o ∷ []) o add.object)
       (All-nil (IsObject digest more)));
-  distinct = λ i lt. elim (cases_lt i (length os)) [
-    | inl old ↦
-        let at = good.distinct i old in
-        ap (λ (x : Object). place_of x.id more) (same_object os (o ∷ []) i old)
-        ∙ (longer (object_at i os).id os (o ∷ []) (omega (arith, at))).place ∙ at
-    | inr end ↦
-        let is : i ≡ length os = omega (arith, length-append os (o ∷ [])) in
-        ap (λ (n : ℕ). place_of (object_at n more).id more) is
-        ∙ ap (λ (x : Object). place_of x.id more) (last_object os o) ∙ new_place o os add.new
-        ∙ sym is
-  ];
-  connected = λ i lt. elim (cases_lt i (length os)) [
-    | inl old ↦
-        subst (λ (x : Object). All (StandsBefore more i) (references_in x.content))
-        (sym (same_object os (o ∷ []) i old))
-        (All-weaker (StandsBefore os i) (StandsBefore more i)
-        (before_longer os (o ∷ []) i (omega arith)) (references_in (object_at i os).content)
-        (good.connected i old))
-    | inr end ↦
-        let is : length os ≡ i = omega (arith, length-append os (o ∷ [])) in
-        subst (λ (n : ℕ). All (StandsBefore more n) (references_in (object_at n more).content)) is
-        (subst (λ (x : Object). All (StandsBefore more (length os)) (references_in x.content))
-        (sym (last_object os o))
-        (All-weaker (StandsBefore os (length os)) (StandsBefore more (length os))
-        (before_longer os (o ∷ []) (length os) (omega arith))
-        (references_in o.content) add.connected))
-  ];
+  distinct = distinct_longer os o good.distinct add.new;
+  connected = connected_longer os o good.connected add.connected;
   few = let room = add.room in omega (arith, length-append os (o ∷ []));
 }
   where
     more : List Object
     more = os ++ o ∷ []
+
+pub one_more_held : (digest : List ℕ → List ℕ) (os : List Object) (o : Object) → AreHeld digest os
+    → MayPut digest os o → AreHeld digest (os ++ o ∷ [])
+one_more_held digest os o held put = record {
+  each = All-append (IsHeldObject digest) os (o ∷ []) held.each
+      (All-cons (IsHeldObject digest) o [] put.object (All-nil (IsHeldObject digest)));
+  distinct = distinct_longer os o held.distinct put.new;
+  connected = connected_longer os o held.connected put.connected;
+  few = let room = put.room in omega (arith, length-append os (o ∷ []));
+}
 
 -- ---- a prefix
 
@@ -228,42 +257,69 @@ valid_shorter xs ys i le kind.Tree bytes h v =
 valid_shorter xs ys i le kind.Commit bytes h v = v
 valid_shorter xs ys i le kind.Tag bytes h v = v
 
+within_longer : (xs ys : List Object) (i : ℕ) → i < length xs → i < length (xs ++ ys)
+within_longer xs ys i lt = omega (arith, length-append xs ys)
+
+distinct_shorter : (xs ys : List Object) → AreDistinct (xs ++ ys) → AreDistinct xs
+distinct_shorter xs ys distinct i lt =
+    let at : place_of (object_at i xs).id (xs ++ ys) ≡ i = ap
+    (λ (x : Object). place_of x.id (xs ++ ys)) (sym (same_object xs ys i lt))
+    ∙ distinct i (within_longer xs ys i lt) in
+    (shorter (object_at i xs).id xs ys (omega (arith, at))).place ∙ at
+
+-- What an object of the prefix refers to comes before it in the whole list.
+refers_within : (xs ys : List Object) → AreConnected (xs ++ ys) → (i : ℕ) → i < length xs
+    → All (StandsBefore (xs ++ ys) i) (references_in (object_at i xs).content)
+refers_within xs ys connected i lt =
+    subst (λ (x : Object). All (StandsBefore (xs ++ ys) i) (references_in x.content))
+    (same_object xs ys i lt) (connected i (within_longer xs ys i lt))
+
+connected_shorter : (xs ys : List Object) → AreConnected (xs ++ ys) → AreConnected xs
+connected_shorter xs ys connected i lt =
+    All-weaker (StandsBefore (xs ++ ys) i) (StandsBefore xs i)
+    (before_shorter xs ys i (omega arith)) (references_in (object_at i xs).content)
+    (refers_within xs ys connected i lt)
+
+-- A fact of each object of a list is one of each object of its prefix.
+at_prefix : (P : Object → Type 0) (xs ys : List Object) → All P (xs ++ ys) → (i : ℕ) → i < length xs
+    → P (object_at i xs)
+at_prefix P xs ys each i lt =
+    subst P (same_object xs ys i lt) (at_place P (xs ++ ys) i each (within_longer xs ys i lt))
+
 pub prefix_is : (digest : List ℕ → List ℕ) (xs ys : List Object) → AreObjects digest (xs ++ ys)
     → AreObjects digest xs
 prefix_is digest xs ys good = record {
   each = all_at (IsObject digest xs) xs
-      (λ i lt. short i lt
-      (subst (IsObject digest (xs ++ ys)) (same_object xs ys i lt)
-      (at_place (IsObject digest (xs ++ ys)) (xs ++ ys) i good.each (within i lt))));
-  distinct = λ i lt.
-      let at : place_of (object_at i xs).id (xs ++ ys) ≡ i = ap
-      (λ (x : Object). place_of x.id (xs ++ ys)) (sym (same_object xs ys i lt))
-      ∙ good.distinct i (within i lt) in
-      (shorter (object_at i xs).id xs ys (omega (arith, at))).place ∙ at;
-  connected = λ i lt.
-      All-weaker (StandsBefore (xs ++ ys) i) (StandsBefore xs i)
-      (before_shorter xs ys i (omega arith)) (references_in (object_at i xs).content) (refers i lt);
+      (λ i lt. short i lt (at_prefix (IsObject digest (xs ++ ys)) xs ys good.each i lt));
+  distinct = distinct_shorter xs ys good.distinct;
+  connected = connected_shorter xs ys good.connected;
   few = let few = good.few in omega (arith, length-append xs ys);
 }
   where
-    within : (i : ℕ) → i < length xs → i < length (xs ++ ys)
-    within i lt = omega (arith, length-append xs ys)
-
-    refers : (i : ℕ) → i < length xs
-        → All (StandsBefore (xs ++ ys) i) (references_in (object_at i xs).content)
-    refers i lt =
-        subst (λ (x : Object). All (StandsBefore (xs ++ ys) i) (references_in x.content))
-        (same_object xs ys i lt) (good.connected i (within i lt))
-
     short : (i : ℕ) → i < length xs → IsObject digest (xs ++ ys) (object_at i xs)
         → IsObject digest xs (object_at i xs)
     short i lt h = record {
       name = h.name;
       named = h.named;
       valid = valid_shorter xs ys i (omega arith) (object_at i xs).content.kind
-          (object_at i xs).content.bytes (refers i lt) h.valid;
+          (object_at i xs).content.bytes (refers_within xs ys good.connected i lt) h.valid;
       short = h.short;
     }
+
+pub held_prefix_is : (digest : List ℕ → List ℕ) (xs ys : List Object) → AreHeld digest (xs ++ ys)
+    → AreHeld digest xs
+held_prefix_is digest xs ys held = record {
+  each = all_at (IsHeldObject digest) xs (at_prefix (IsHeldObject digest) xs ys held.each);
+  distinct = distinct_shorter xs ys held.distinct;
+  connected = connected_shorter xs ys held.connected;
+  few = let few = held.few in omega (arith, length-append xs ys);
+}
+
+pub held_taken_is : (digest : List ℕ → List ℕ) (os : List Object) (n : ℕ) → AreHeld digest os
+    → AreHeld digest (take n os)
+held_taken_is digest os n held =
+    held_prefix_is digest (take n os) (drop n os)
+    (subst (AreHeld digest) (sym (take-append-drop n os)) held)
 
 pub taken_is : (digest : List ℕ → List ℕ) (os : List Object) (n : ℕ) → AreObjects digest os
     → AreObjects digest (take n os)

@@ -7,9 +7,12 @@ pub mod IdentLaws
 pub mod IdentExamples
 pub mod OneLine
 pub mod HeaderLines
+pub mod FirstLines
 pub mod TreeReadings
 pub mod CommitReadings
+pub mod CommitTimes
 pub mod TagReadings
+pub mod Readables
 pub mod Places
 pub mod Least
 pub mod Earlier

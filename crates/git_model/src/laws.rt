@@ -3,11 +3,14 @@
 //! A law is a function with an empty body: its clause states the law, and a call does nothing.
 
 ghost use Rattle.std.specs.Prelude.{◌≡◌, ◌↔◌, ℕ, List, [], ◌∷◌, ◌++◌, ◌≤◌, take, Option, Some};
-ghost use Rattle.std.specs.Prelude.{IsTrue};
+ghost use Rattle.std.specs.{Prelude.{IsTrue, All, length, map}, List.{flat_map}};
+ghost use Rattle.git_model.specs.Readable.{IsReadable, RawEntry, IsRawEntry, raw_entry_text};
+ghost use Rattle.git_model.specs.{Readable.{entry_from}, HeldObjects.{AreHeld, MayPut}};
+ghost use Rattle.git_model.specs.Limits.{parents_limit};
 ghost use Rattle.git_model.specs.{declared.kind.Kind.{Kind as Kinds}, TreeReading.{tree_read}};
 ghost use Rattle.git_model.specs.Tree.{TreeEntry, CanWriteTree, tree_contents};
 ghost use Rattle.git_model.specs.Commit.{Commit, CanWriteCommit, commit_contents};
-ghost use Rattle.git_model.specs.{CommitReading.{commit_read}, TagReading.{tag_read}};
+ghost use Rattle.git_model.specs.{CommitReading.{commit_read, commit_time, time_of}, TagReading.{tag_read}};
 ghost use Rattle.git_model.specs.{Tag.{Tag, CanWriteTag, tag_contents}, Repository.{Object}};
 ghost use Rattle.git_model.specs.References.{kind_named, parents_of, referred_by};
 ghost use Rattle.git_model.specs.GoodRepository.{AreObjects, MayAdd, AreRefs, IsShortRefName};
@@ -31,6 +34,44 @@ pub fn commits_are_read_back()
 /// Reading the contents of a tag gives back the tag.
 pub fn tags_are_read_back()
     ensures { (t : Tag) → CanWriteTag t → tag_read (tag_contents t) ≡ t }
+{}
+
+/// What can be written can be read: a commit with few enough parents, a tag and a tree.
+pub fn written_contents_are_readable()
+    ensures commits { (c : Commit) → CanWriteCommit c → length c.parents ≤ parents_limit
+        → IsReadable kind.Commit (commit_contents c) }
+    ensures tags { (t : Tag) → CanWriteTag t → IsReadable kind.Tag (tag_contents t) }
+    ensures trees { (es : List TreeEntry) → CanWriteTree es
+        → IsReadable kind.Tree (tree_contents es) }
+{}
+
+/// Reading the contents of a tree that can be read gives its entries, in their order.
+pub fn readable_trees_are_read_back()
+    ensures { (es : List RawEntry) → All IsRawEntry es
+        → tree_read (flat_map raw_entry_text es) ≡ map entry_from es }
+{}
+
+/// A commit that can be written was made when its committer says.
+pub fn written_commits_have_their_time()
+    ensures { (c : Commit) → CanWriteCommit c → time_of (commit_contents c) ≡ commit_time c }
+{}
+
+/// Good objects are held.
+pub fn good_objects_are_held()
+    ensures { (digest : List ℕ → List ℕ) (os : List Object) → AreObjects digest os
+        → AreHeld digest os }
+{}
+
+/// Each prefix of held objects is held.
+pub fn each_prefix_is_held()
+    ensures { (digest : List ℕ → List ℕ) (os : List Object) (n : ℕ) → AreHeld digest os
+        → AreHeld digest (take n os) }
+{}
+
+/// Held objects stay held where one more is added that may be put there.
+pub fn one_more_object_is_held()
+    ensures { (digest : List ℕ → List ℕ) (os : List Object) (o : Object) → AreHeld digest os
+        → MayPut digest os o → AreHeld digest (os ++ o ∷ []) }
 {}
 
 /// The empty list of objects is good.
@@ -77,17 +118,17 @@ pub fn refs_stay_good_under_another_head()
         → IsShortRefName ref → AreRefs os (with_head store ref) }
 {}
 
-/// Among good objects, the test finds exactly what is reachable by parents, the least closed set.
+/// Among held objects, the test finds exactly what is reachable by parents, the least closed set.
 /// It walks at most as many steps as there are objects.
 pub fn parents_reach_the_least_set()
-    ensures { (digest : List ℕ → List ℕ) (os : List Object) → AreObjects digest os
+    ensures { (digest : List ℕ → List ℕ) (os : List Object) → AreHeld digest os
         → (from to : List ℕ)
         → IsTrue (is_reachable os (parents_of os) from to) ↔ Reaches (parents_of os) from to }
 {}
 
 /// The same for all references of objects, not only for parents.
 pub fn references_reach_the_least_set()
-    ensures { (digest : List ℕ → List ℕ) (os : List Object) → AreObjects digest os
+    ensures { (digest : List ℕ → List ℕ) (os : List Object) → AreHeld digest os
         → (from to : List ℕ)
         → IsTrue (is_reachable os (referred_by os) from to) ↔ Reaches (referred_by os) from to }
 {}
@@ -98,10 +139,10 @@ pub fn kinds_are_tested()
         → IsTrue (is_of os wanted id) ↔ (kind_named id os ≡ Some wanted) }
 {}
 
-/// Among good objects, peeling ends at the first object of the wanted kind on the way, however far
+/// Among held objects, peeling ends at the first object of the wanted kind on the way, however far
 /// that is, and answers none if there is no such object on the way.
 pub fn peeling_ends_at_the_first()
-    ensures { (digest : List ℕ → List ℕ) (os : List Object) → AreObjects digest os
+    ensures { (digest : List ℕ → List ℕ) (os : List Object) → AreHeld digest os
         → (wanted : Kinds) (id found : List ℕ)
         → (peeled_to os wanted id ≡ Some found)
         ↔ ComesFirstTo (is_of os wanted) (next_to os wanted) id found }
@@ -109,7 +150,7 @@ pub fn peeling_ends_at_the_first()
 
 /// The same for tags that are followed to the first object that is not a tag.
 pub fn tags_lead_to_the_first_that_is_none()
-    ensures { (digest : List ℕ → List ℕ) (os : List Object) → AreObjects digest os
+    ensures { (digest : List ℕ → List ℕ) (os : List Object) → AreHeld digest os
         → (id found : List ℕ)
         → (without_tags os id ≡ Some found)
         ↔ ComesFirstTo (is_there_untagged os) (next_to os kind.Blob) id found }

@@ -1,12 +1,42 @@
 -- A text parted at the first byte of a kind.
-use Rattle.std.proofs.Common.{◌≡◌, ◌≢◌, ℕ, ◌+◌, ◌<◌, List, [], ◌∷◌, ◌++◌, length, take, drop, get_or, refl, sym, ap, ◌∙◌, All, Option, Some, None, true, false, position, arith, ◌==◌, length-append}
+use Rattle.std.proofs.Common.{◌≡◌, ◌≢◌, ℕ, ◌+◌, ◌<◌, Bool, not, List, [], ◌∷◌, ◌++◌, length, take, drop, get_or, refl, sym, ap, ◌∙◌, All, Option, Some, None, true, false, position, arith, ◌==◌, length-append}
 use Rattle.std.specs.List.{position_or_len}
 use Rattle.std.specs.Option.{option_map}
 use Rattle.std.proofs.lemmas.Bool.{eqb-true, ne_eqb, eq-eqb, lt-ltb}
 use Rattle.std.proofs.lemmas.List.{take-append-drop, drop_more, get_or-take, append_assoc, length-take, take_at, drop_at, length_push}
 use Rattle.std.proofs.lemmas.List.Elements.{All-from_get_or, All-head, All-tail}
 use Rattle.std.proofs.lemmas.List.Quantifiers.{position-Some}
+use Rattle.std.proofs.lemmas.List.Sums.{prefix_len_is}
+use Rattle.std.proofs.lemmas.Grind.{common_steps}
+use Rattle.memchr.specs.Find.{IsFirstByte, is_byte}
 use Rattle.git_objects.specs.Fronts.{IsFront}
+
+-- ---- what the search for a byte finds is its position
+
+goes_on : (b : Bool) → (b ≡ true → ⊥) → not b ≡ true
+goes_on true h = absurd (h refl)
+goes_on false h = refl
+
+abbrev first_at : ℕ → List ℕ → ℕ
+first_at sought xs = position_or_len (λ byte. byte == sought) xs
+
+pub found_is_position : (sought : ℕ) (xs : List ℕ) (found : Option ℕ)
+    → IsFirstByte (is_byte sought) xs found → found ≡ position (λ byte. byte == sought) xs
+found_is_position sought xs None h =
+    let whole : first_at sought xs ≡ length xs =
+    prefix_len_is (λ b. not (b == sought)) xs (length xs) 0 (omega arith)
+    (λ k below. goes_on (get_or xs k 0 == sought) (h k (omega arith) below))
+    (λ below. absurd (omega arith)) in
+    grind (arith, common_steps)
+found_is_position sought xs (Some at) h =
+    let here : first_at sought xs ≡ at =
+    prefix_len_is (λ b. not (b == sought)) xs at 0 (omega (arith, h.0.high))
+    (λ k below. goes_on (get_or xs k 0 == sought) (h.0.before k (omega arith) below))
+    (λ below. ap not h.1) in
+    let within : at < length xs = h.0.high in
+    grind (arith, common_steps)
+
+-- ---- the parts
 
 -- what stands before the place, the byte there, and what stands after it
 parts_at : (end : ℕ) (xs : List ℕ) (i : ℕ) → position (λ byte. byte == end) xs ≡ Some i

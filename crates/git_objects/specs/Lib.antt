@@ -11,7 +11,11 @@ pub use Rattle.git_names.specs.Ident
 pub mod Parts
 pub mod Fronts
 pub mod TreeParts
+pub mod RawEntries
 pub mod HeaderParts
+pub mod HeaderLines
 pub mod CommitParts
+pub mod DigitParents
+pub mod Times
 pub mod TagParts
 pub mod Listing

@@ -2,14 +2,19 @@
 
 ghost use Rattle.std.specs.Prelude.{◌≡◌, ◌≢◌, ℕ, List, ◌++◌, length, take, Some, IfSome, IfOk};
 ghost use Rattle.std.specs.{Prelude.{IsNone, IsSomeAnd, OnOk, OnErr, codes}, List.{flat_map}};
+ghost use Rattle.std.specs.Prelude.{◌↔◌, ◌≤◌, IsTrue, MatchOption};
 ghost use Rattle.std.specs.Option.{option_map, option_copied};
+ghost use Rattle.git_model.specs.{Readable.{IsReadable}, Limits.{parents_limit}};
+ghost use Rattle.git_model.specs.declared.kind.Kind.TheVariants as kind;
+ghost use Rattle.git_objects.specs.DigitParents.{AreDigitParents, IsAfterParents};
 ghost use Rattle.git_model.specs.{ObjectName.{IsObjectName}, CommitReading.{commit_read}};
 ghost use Rattle.git_model.specs.Commit.{Commit, CanWriteCommit, commit_contents, name_line};
 ghost use Rattle.git_objects.specs.{Parts.{commit_of}, Fronts.{IsFront}, HeaderParts.{end_lines}};
 ghost use Rattle.git_objects.specs.CommitParts.{AreParents, IsIdents, idents_text, IsEncoded};
 
 use crate::header::{
-    append_end, append_line, append_name_line, take_end, take_ident_line, take_name_line,
+    append_end, append_line, append_name_line, find_value, message_in, take_digits_line, take_end,
+    take_ident_line, take_name_line, value_or_empty,
 };
 use git_names::{Memory, Name};
 use std::alloc::Global;
@@ -23,8 +28,12 @@ const ENCODING_LINE: usize = 10;
 // How long the lines that each commit has are without author, committer and message.
 const OTHER_LINES: usize = 66;
 
+// How many parents a commit may have.
+const PARENTS_LIMIT: usize = 1024;
+
 /// The parts of a commit: "commit object" in gitglossary(7). Its texts are borrowed, for example
-/// from the contents that were read.
+/// from the contents that were read. Author, committer and encoding are any texts on one line where
+/// only `look_commit` reads the contents.
 #[derive(Drop)]
 pub struct CommitParts<'a> {
     /// The name of the commit's tree.
@@ -185,4 +194,59 @@ pub fn read_commit_tree(contents: &[u8]) -> Option<Name>
         return None;
     };
     Some(first.0)
+}
+
+// As `take_parents`, for digits of either case.
+fn take_digit_parents(alloc: Global, bytes: &[u8]) -> Result<(Vec<Name>, &[u8]), Memory>
+    ensures { IfOk result (λ r. AreDigitParents bytes.now r.0.items r.1.now) }
+{
+    let mut ancestors = Vec::new(alloc);
+    let mut rest = bytes;
+    while let Some(taken) = take_digits_line(b"parent ", rest) {
+        ancestors.push(taken.0.0)?;
+        rest = taken.1;
+    }
+    Ok((ancestors, rest))
+}
+
+// Whether a text can follow the lines of so many parents, which are all.
+fn is_after_parents(count: usize, rest: &[u8]) -> bool
+    ensures { IsTrue result ↔ ((count ≤ parents_limit) × IsAfterParents rest.now) }
+{
+    count <= PARENTS_LIMIT && !rest.is_empty() && !rest.starts_with(b"parent ")
+}
+
+/// Reads the contents of any commit that Git can walk, whoever wrote it: git-cat-file(1), -p. The
+/// texts of the parts are borrowed from the contents.
+///
+/// `None` if the contents do not begin with the line `tree` and any number of lines `parent`, up to
+/// 1,024, each with 40 hexadecimal digits of either case; if another line that begins with `parent`
+/// follows, or nothing. Author, committer and encoding are any texts, or empty where their lines
+/// are missing. A commit that `read_commit` reads has the same parts here. `Memory` (90) if there
+/// is no memory for the names of the parents.
+pub fn look_commit(alloc: Global, contents: &[u8]) -> Result<Option<CommitParts<'_>>, Memory>
+    ensures { IfOk result (λ r. MatchOption r (¬ IsReadable kind.Commit contents.now)
+        (λ parts. IsReadable kind.Commit contents.now
+        × (commit_of parts ≡ commit_read contents.now))) }
+{
+    let Some(first) = take_digits_line(b"tree ", contents) else {
+        return Ok(None);
+    };
+    let ((tree, _digits), rest) = first;
+    let (ancestors, rest) = take_digit_parents(alloc, rest)?;
+    if !is_after_parents(ancestors.len(), rest) {
+        return Ok(None);
+    }
+    let author = value_or_empty(b"author ", rest);
+    let committer = value_or_empty(b"committer ", rest);
+    let encoding = find_value(b"encoding ", rest);
+    let message = message_in(rest);
+    Ok(Some(CommitParts {
+        tree,
+        ancestors,
+        author,
+        committer,
+        encoding,
+        message,
+    }))
 }

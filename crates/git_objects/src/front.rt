@@ -4,10 +4,12 @@ ghost use Rattle.std.specs.Prelude.{◌≡◌, ◌≢◌, ◌==◌, [], ◌∷�
 ghost use Rattle.std.specs.Option.{option_map};
 ghost use Rattle.git_objects.specs.Fronts.{IsFront};
 
+use memchr::memchr;
+
 fn index_of(bytes: &[u8], sought: u8) -> Option<usize>
     ensures { result ≡ position (λ byte. byte == sought) bytes.now }
 {
-    bytes.iter().position(|byte| *byte == sought)
+    memchr(sought, bytes)
 }
 
 /// Splits a text at the first byte that is `end`: what comes before it and what comes after it, or

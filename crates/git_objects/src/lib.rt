@@ -5,6 +5,7 @@
 #![tactic(auto)]
 
 mod commit;
+mod commit_time;
 mod front;
 mod header;
 mod listing;
@@ -15,7 +16,8 @@ mod tree;
 mod tree_entry;
 
 pub use byte_devices::{Counted, DeviceFault, FailingReader, FailingWriter, write_all};
-pub use commit::{CommitParts, read_commit, read_commit_tree, write_commit};
+pub use commit::{CommitParts, look_commit, read_commit, read_commit_tree, write_commit};
+pub use commit_time::time_of;
 pub use git_model::{FileMode, Kind};
 pub use git_names::{
     Ident, IdentFault as Fault, Memory, Name, Naming, Sha1Naming, TailNaming, has_twenty_bytes,
@@ -24,6 +26,6 @@ pub use git_names::{
 pub use listing::{append_listing, kind_of_mode, six_digits};
 pub use mode::{mode_digits, read_mode};
 pub use parts::append_parts;
-pub use tag::{TagParts, read_tag, write_tag};
-pub use tree::{read_tree, write_tree};
+pub use tag::{TagParts, look_tag, read_tag, write_tag};
+pub use tree::{look_tree, read_tree, write_tree};
 pub use tree_entry::{TreeEntry, is_entry_name};

@@ -1,23 +1,26 @@
 //! The contents of tags: git-mktag(1).
 
 ghost use Rattle.std.specs.Prelude.{◌≡◌, ◌≢◌, ◌↔◌, ◌++◌, length, take, MatchOption, IfSome, IfOk};
-ghost use Rattle.std.specs.Prelude.{IsNone, IsSomeAnd, IsTrue, OnOk, OnErr, codes};
+ghost use Rattle.std.specs.Prelude.{IsNone, IsSomeAnd, IsTrue, OnOk, OnErr, ⊤, codes};
 ghost use Rattle.std.specs.Option.{option_map, option_copied};
 ghost use Rattle.git_model.specs.{declared.kind.Kind.{Kind as Kinds}, Kind.{kind_word as word_of}};
 ghost use Rattle.git_model.specs.{RefName.{IsRefName}, Tag.{Tag, CanWriteTag, tag_contents}};
-ghost use Rattle.git_model.specs.TagReading.{tag_read};
+ghost use Rattle.git_model.specs.{TagReading.{tag_read}, Readable.{IsReadable}};
+ghost use Rattle.git_model.specs.declared.kind.Kind.TheVariants as kind;
 ghost use Rattle.git_objects.specs.{Parts.{tag_of}, Fronts.{IsFront}, HeaderParts.{end_lines}};
 ghost use Rattle.git_objects.specs.TagParts.{IsTagged, IsTagger, kind_line};
 
 use crate::header::{
-    append_end, append_line, append_name_line, take_end, take_line, take_name_line,
+    append_end, append_line, append_name_line, find_value, message_in, take_digits_line, take_end,
+    take_line, take_name_line,
 };
 use git_model::Kind;
 use git_names::{Memory, Name, is_ref_name, is_written_ident, kind_word};
 use std::alloc::Global;
 
 /// The parts of a tag: git-mktag(1). Its texts are borrowed, for example from the contents that
-/// were read.
+/// were read. Where only `look_tag` reads the contents, the object may be a tree, and name and
+/// tagger are any texts on one line.
 #[derive(Clone, Copy)]
 pub struct TagParts<'a> {
     /// The name of the object that is tagged.
@@ -155,4 +158,41 @@ pub fn read_tag(alloc: Global, contents: &[u8]) -> Result<Option<TagParts<'_>>, 
         tagger,
         message,
     }))
+}
+
+fn take_any_kind(bytes: &[u8]) -> Option<(Kind, &[u8])>
+    ensures { IsFront (λ _. ⊤) kind_line bytes.now (option_map (λ x. (x.0, x.1.now)) result) }
+{
+    let (word, rest) = take_line(b"type ", bytes)?;
+    match read_kind(word) {
+        Some(kind) => Some((kind, rest)),
+        None => None,
+    }
+}
+
+/// Reads the contents of any tag that Git can walk, whoever wrote it: git-cat-file(1), -p. The
+/// texts of the parts are borrowed from the contents. Takes no memory.
+///
+/// `None` if the contents do not begin with the lines `object` with 40 hexadecimal digits of either
+/// case, `type` with one of the four kinds, and `tag`. The tagger is any text, and so is the name,
+/// which may be empty. A tag that `read_tag` reads has the same parts here.
+pub fn look_tag(contents: &[u8]) -> Option<TagParts<'_>>
+    ensures { MatchOption result (¬ IsReadable kind.Tag contents.now)
+        (λ parts. IsReadable kind.Tag contents.now × (tag_of parts ≡ tag_read contents.now)) }
+{
+    let Some(first) = take_digits_line(b"object ", contents) else {
+        return None;
+    };
+    let ((target, _digits), rest) = first;
+    let (kind, rest) = take_any_kind(rest)?;
+    let (name, rest) = take_line(b"tag ", rest)?;
+    let tagger = find_value(b"tagger ", rest);
+    let message = message_in(rest);
+    Some(TagParts {
+        target,
+        kind,
+        name,
+        tagger,
+        message,
+    })
 }

@@ -1,7 +1,7 @@
 //! The contents of trees: "tree object" in gitglossary(7).
 
 ghost use Rattle.std.specs.Prelude.{◌≡◌, ◌≢◌, ◌↔◌, List, [], ◌∷◌, ◌++◌, length, take, IfSome, IfOk};
-ghost use Rattle.std.specs.Prelude.{IsNone, IsSomeAnd, position, OnOk, OnErr, IsTrue, ⊤};
+ghost use Rattle.std.specs.Prelude.{IsNone, IsSomeAnd, MatchOption, position, OnOk, OnErr, IsTrue, ⊤};
 ghost use Rattle.std.specs.Option.{option_map};
 ghost use Rattle.git_model.specs.Tree.{TreeEntry as Entry, IsEntryName, CanWriteEntry};
 ghost use Rattle.git_model.specs.Tree.{CanWriteTree, entry_text, tree_contents};
@@ -9,14 +9,20 @@ ghost use Rattle.git_model.specs.TreeReading.{tree_read};
 ghost use Rattle.git_objects.specs.{Parts.{entry_of, entries_of}, Fronts.{IsFront}};
 ghost use Rattle.git_objects.specs.TreeParts.{mode_text, name_text, ends_name, IsReserved};
 ghost use Rattle.git_objects.specs.TreeParts.{AreInOrder, HasTwin, CanFollow};
+ghost use Rattle.git_objects.specs.RawEntries.{digits_text, raw_entry_of, IsRawName};
+ghost use Rattle.git_model.specs.Readable.{AreModeDigits, IsRawEntry, raw_entry_text};
+ghost use Rattle.git_model.specs.Readable.{IsReadable, entry_from};
+ghost use Rattle.git_model.specs.declared.kind.Kind.TheVariants as kind;
 
-use crate::mode::mode_digits;
+use crate::front::split_at_byte;
+use crate::mode::{are_mode_digits, mode_digits, mode_named_by};
 use crate::tree_entry::TreeEntry;
 use git_model::FileMode;
 use git_names::{Memory, Name};
 use std::alloc::Global;
 
-// No entry has fewer bytes: a mode of five digits, a space, a name, a NUL, and an object's name.
+// No entry that can be written has fewer bytes: a mode of five digits, a space, a name, a NUL, and
+// an object's name. The list grows where another program wrote shorter ones.
 const LEAST_TEXT: usize = 28;
 
 fn append_entry(entry: &TreeEntry<'_>, contents: &mut Vec<u8>) -> Result<(), Memory>
@@ -201,6 +207,95 @@ pub fn read_tree(alloc: Global, contents: &[u8]) -> Result<Option<Vec<TreeEntry<
             return Ok(None);
         }
         if entries.push(entry).is_err() {
+            return Err(Memory);
+        }
+        rest = after;
+    }
+    Ok(Some(entries))
+}
+
+// An entry of any tree that Git can walk, with the digits of its mode.
+#[derive(Clone, Copy)]
+struct RawEntry<'a> {
+    mode: &'a [u8],
+    name: &'a [u8],
+    id: Name,
+}
+
+fn take_mode_digits(contents: &[u8]) -> Option<(&[u8], &[u8])>
+    ensures { IsFront AreModeDigits digits_text contents.now
+        (option_map (λ x. (x.0.now, x.1.now)) result) }
+{
+    let (digits, rest) = split_at_byte(contents, b' ')?;
+    if are_mode_digits(digits) {
+        Some((digits, rest))
+    } else {
+        None
+    }
+}
+
+fn take_raw_name(contents: &[u8]) -> Option<(&[u8], &[u8])>
+    ensures { IsFront IsRawName name_text contents.now
+        (option_map (λ x. (x.0.now, x.1.now)) result) }
+{
+    match split_at_byte(contents, 0)? {
+        (b"", _) => None,
+        found => Some(found),
+    }
+}
+
+fn take_raw_entry(contents: &[u8]) -> Option<(RawEntry<'_>, &[u8])>
+    ensures { IsFront IsRawEntry raw_entry_text contents.now
+        (option_map (λ x. (raw_entry_of x.0, x.1.now)) result) }
+{
+    let Some((mode, rest)) = take_mode_digits(contents) else {
+        return None;
+    };
+    let Some((name, rest)) = take_raw_name(rest) else {
+        return None;
+    };
+    let Some((id, rest)) = rest.split_first_chunk::<20>() else {
+        return None;
+    };
+    let id = Name::from_bytes(*id);
+    Some((RawEntry { mode, name, id }, rest))
+}
+
+fn entry_from<'a>(raw: &RawEntry<'a>) -> TreeEntry<'a>
+    requires { AreModeDigits raw.now.mode.now }
+    ensures { entry_of result ≡ entry_from (raw_entry_of raw.now) }
+{
+    TreeEntry {
+        mode: mode_named_by(raw.mode),
+        name: raw.name,
+        id: raw.id,
+    }
+}
+
+/// Reads the contents of any tree that Git can walk, whoever wrote it: git-ls-tree(1). The names of
+/// the entries are borrowed from the contents.
+///
+/// An entry is a mode of 1 to 7 octal digits, a space, a name of at least one byte, a NUL, and 20
+/// bytes. Entries may come in any order and have any names, such as `..` or `a/b`. The mode is what
+/// Git makes of it by its format bits: `100664` is a regular file, and `040000` a directory. A tree
+/// that `read_tree` reads has the same entries here.
+///
+/// `None` if the contents do not consist of such entries. `Memory` (90) if there is no memory for
+/// the entries.
+pub fn look_tree(alloc: Global, contents: &[u8]) -> Result<Option<Vec<TreeEntry<'_>>>, Memory>
+    ensures { IfOk result (λ r. MatchOption r (¬ IsReadable kind.Tree contents.now)
+        (λ es. IsReadable kind.Tree contents.now
+        × (entries_of es.items ≡ tree_read contents.now))) }
+{
+    let Ok(mut entries) = Vec::with_capacity(alloc, contents.len() / LEAST_TEXT) else {
+        return Err(Memory);
+    };
+    let mut rest = contents;
+    while !rest.is_empty() {
+        let Some((raw, after)) = take_raw_entry(rest) else {
+            return Ok(None);
+        };
+        if entries.push(entry_from(&raw)).is_err() {
             return Err(Memory);
         }
         rest = after;

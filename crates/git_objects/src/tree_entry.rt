@@ -15,7 +15,8 @@ use std::cmp::Ordering;
 pub struct TreeEntry<'a> {
     /// The mode, which says what the entry is.
     pub mode: FileMode,
-    /// The entry's name: one component of a path, without a slash.
+    /// The entry's name: one component of a path, without a slash. Any text without a NUL where only
+    /// `look_tree` reads the tree.
     pub name: &'a [u8],
     /// The name of the entry's object, or the commit of a gitlink.
     pub id: Name,

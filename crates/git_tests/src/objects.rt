@@ -1,5 +1,6 @@
 //! Trees and tags that are refused, and similar ones that are read.
 
+mod by_others;
 mod made_by_git;
 
 use git_objects::{

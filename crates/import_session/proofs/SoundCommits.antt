@@ -5,6 +5,7 @@ use Rattle.std.specs.Map.{lookup}
 use Rattle.std.specs.Option.{option_and_then}
 use Rattle.std.specs.Str.{bytes_eq}
 use Rattle.std.proofs.lemmas.List.Elements.{All-head, All-tail, All-weaker}
+use Rattle.git_model.proofs.Readables.{objects_are}
 use Rattle.git_model.specs.declared.kind.Kind.TheVariants as kind
 use Rattle.git_model.specs.GoodRepository.{AreObjects}
 use Rattle.git_model.specs.Peeling.{ComesFirstTo, at_once, later, is_of, next_to, peeled_to}
@@ -63,7 +64,7 @@ peeled_passes digest os good id end e =
     let test = is_of os kind.Commit in
     let next = next_to os kind.Commit in
     passes test next ((first_is test next (λ k. place_of k os)
-    (next_falls digest os good kind.Commit) (length os) id end (place_within id os)).0 e)
+    (next_falls digest os (objects_are digest os good) kind.Commit) (length os) id end (place_within id os)).0 e)
 
 pub peeled_commit : (digest : List ℕ → List ℕ) (os : List Object) → AreObjects digest os
     → (id : List ℕ) → IfOk (resolved_or (peeled os kind.Commit id)) (IsCommitOf os)

@@ -6,7 +6,7 @@ use Rattle.std.proofs.lemmas.List.{map-append, take_all, take_more}
 use Rattle.std.proofs.lemmas.List.Elements.{filter-append}
 use Rattle.git_model.specs.Repository.{Object}
 use Rattle.git_model.specs.References.{object_at, no_object, place_of}
-use Rattle.git_model.specs.GoodRepository.{AreObjects}
+use Rattle.git_model.specs.HeldObjects.{AreHeld}
 use Rattle.missing_objects.specs.Marks.{Marks, is_open, open_places}
 use Rattle.missing_objects.specs.Missing.{is_missing, missing_places}
 use Rattle.missing_objects.proofs.Opens.{opens}
@@ -36,7 +36,7 @@ no-places m n none = empty (open_places m n) none
     empty [] e = refl
     empty (p ∷ ps) e = absurd (omega arith)
 
-module _ (digest : List ℕ → List ℕ) (os : List Object) (good : AreObjects digest os)
+module _ (digest : List ℕ → List ℕ) (os : List Object) (held : AreHeld digest os)
     (wants haves : List (List ℕ)) (m : Marks)
     (settled : (p : ℕ) → p < length os → is_open m p ≡ is_missing os wants haves (object_at p os)) where
   abbrev place : Object → ℕ
@@ -72,7 +72,7 @@ module _ (digest : List ℕ → List ℕ) (os : List Object) (good : AreObjects 
       ap (open_places m) (sym (add-one k)) ∙ places-suc m k
       ∙ ap (λ ps. ps ++ cond (is_open m k) (k ∷ []) []) (listed k (omega arith))
       ∙ ap (λ ps. among (take k os) ++ ps)
-      (sym (one (object_at k os) k (is_open m k) (sym (settled k lt)) (good.distinct k lt)))
+      (sym (one (object_at k os) k (is_open m k) (sym (settled k lt)) (held.distinct k lt)))
       ∙ sym (among-append (take k os) (object_at k os ∷ []))
       ∙ ap among (sym (taken k lt)) ∙ ap (λ n. among (take n os)) (add-one k)
 

@@ -8,7 +8,7 @@ use Rattle.std.proofs.lemmas.Bool.Decides.{nat_tests}
 use Rattle.std.proofs.lemmas.List.Elements.{All-nil, All-contains, All-contains_itself, All-weaker}
 use Rattle.git_model.specs.Repository.{Object}
 use Rattle.git_model.specs.References.{referred_by, place_of, object_at}
-use Rattle.git_model.specs.GoodRepository.{AreObjects}
+use Rattle.git_model.specs.HeldObjects.{AreHeld}
 use Rattle.git_model.specs.Reach.{IsClosed}
 use Rattle.git_model.proofs.Earlier.{references_fall}
 use Rattle.commit_walk.proofs.Named.{there}
@@ -21,16 +21,16 @@ use Rattle.missing_objects.proofs.Opens.{opens, opens-agree, opens-few, opens-su
 
 -- ---- what is led to is what is reached
 
-module _ (digest : List ℕ → List ℕ) (os : List Object) (good : AreObjects digest os) where
+module _ (digest : List ℕ → List ℕ) (os : List Object) (held : AreHeld digest os) where
   pub led-reached : (names : List (List ℕ)) (id : List ℕ) → IsLedTo os names id
       → is_reached_by os names id ≡ true
   unfolding is_reached_by
-  led-reached names id led = led-any digest os good names id led
+  led-reached names id led = led-any digest os held names id led
 
   pub reached-led : (names : List (List ℕ)) (id : List ℕ) → is_reached_by os names id ≡ true
       → IsLedTo os names id
   unfolding is_reached_by
-  reached-led names id h = any-led digest os good id names h
+  reached-led names id h = any-led digest os held id names h
 
 -- A sweep that has looked at the places from n on and found some of them opened.
 pub record IsSweep (os : List Object) (wants haves : List (List ℕ)) (n found : ℕ) (m : Marks) : Type 0 where
@@ -89,7 +89,7 @@ both-of true true e = cc
 both-of true false e = (refl, refl)
 both-of false b e = cc
 
-module _ (digest : List ℕ → List ℕ) (os : List Object) (good : AreObjects digest os)
+module _ (digest : List ℕ → List ℕ) (os : List Object) (held : AreHeld digest os)
     (wants haves : List (List ℕ)) where
   pub sweep-first : IsSweep os wants haves (length os) 0 (first_marks os wants haves)
   sweep-first = record {
@@ -124,42 +124,42 @@ module _ (digest : List ℕ → List ℕ) (os : List Object) (good : AreObjects 
         → IsSweep os wants haves n (found + 0) (record { wanted = m.wanted; had = with_flags os m.had ids })
     having on = record {
       wanted = w.wanted;
-      had = led-more digest os good n within haves m.had on w.had;
+      had = led-more digest os held n within haves m.had on w.had;
       wanted_done = λ p from opened. elim (cases_eq n p) [
         | inl same ↦
             let now : get_or (with_flags os m.had ids) p false ≡ true = kept_on os ids m.had p false (subst (λ (q : ℕ). get_or m.had q false ≡ true) same on) in
             let off = not-had-of (record { wanted = m.wanted; had = with_flags os m.had ids }) p opened in cc
         | inr other ↦ w.wanted_done p (omega arith)
-            (ap (λ (b : Bool). get_or m.wanted p false && not b) (sym (same_above digest os good n within m.had p from)) ∙ opened)
+            (ap (λ (b : Bool). get_or m.wanted p false && not b) (sym (same_above digest os held n within m.had p from)) ∙ opened)
       ];
       had_done = λ p from h. elim (cases_eq n p) [
         | inl same ↦ subst (λ (q : ℕ). All (IsOn os (with_flags os m.had ids)) (referred_by os (object_at q os).id)) same
             (all_on os ids m.had)
         | inr other ↦ stays_on os ids m.had (referred_by os (object_at p os).id)
-            (w.had_done p (omega arith) (sym (same_above digest os good n within m.had p from) ∙ h))
+            (w.had_done p (omega arith) (sym (same_above digest os held n within m.had p from) ∙ h))
       ];
       count = counted (record { wanted = m.wanted; had = with_flags os m.had ids }) false (closed-of m n on)
-          (λ p from. ap (λ (b : Bool). get_or m.wanted p false && not b) (same_above digest os good n within m.had p from));
+          (λ p from. ap (λ (b : Bool). get_or m.wanted p false && not b) (same_above digest os held n within m.had p from));
     }
 
     wanting : get_or m.had n false ≡ false → get_or m.wanted n false ≡ true
         → IsSweep os wants haves n (found + 1) (record { wanted = with_flags os m.wanted ids; had = m.had })
     wanting off on = record {
-      wanted = led-more digest os good n within wants m.wanted on w.wanted;
+      wanted = led-more digest os held n within wants m.wanted on w.wanted;
       had = w.had;
       wanted_done = λ p from opened. elim (cases_eq n p) [
         | inl same ↦ subst (λ (q : ℕ). All (IsOn os (with_flags os m.wanted ids)) (referred_by os (object_at q os).id)) same
             (all_on os ids m.wanted)
         | inr other ↦ stays_on os ids m.wanted (referred_by os (object_at p os).id)
             (w.wanted_done p (omega arith)
-            (ap (λ (b : Bool). b && not (get_or m.had p false)) (sym (same_above digest os good n within m.wanted p from)) ∙ opened))
+            (ap (λ (b : Bool). b && not (get_or m.had p false)) (sym (same_above digest os held n within m.wanted p from)) ∙ opened))
       ];
       had_done = λ p from h. elim (cases_eq n p) [
         | inl same ↦ let fails : get_or m.had p false ≡ false = subst (λ (q : ℕ). get_or m.had q false ≡ false) same off in cc
         | inr other ↦ w.had_done p (omega arith) h
       ];
       count = counted (record { wanted = with_flags os m.wanted ids; had = m.had }) true (open-of m n on off)
-          (λ p from. ap (λ (b : Bool). b && not (get_or m.had p false)) (same_above digest os good n within m.wanted p from));
+          (λ p from. ap (λ (b : Bool). b && not (get_or m.had p false)) (same_above digest os held n within m.wanted p from));
     }
 
     passing : get_or m.had n false ≡ false → get_or m.wanted n false ≡ false → IsSweep os wants haves n (found + 0) m
@@ -229,7 +229,7 @@ module _ (digest : List ℕ → List ℕ) (os : List Object) (good : AreObjects 
       | inl lt ↦
           All-weaker (λ q. place_of q os < place_of id os) (λ b. IsTrue (had_or_below b))
           (λ b less. or_right (get_or m.had (place_of b os) true) _ (below-test (place_of b os) n (omega arith)))
-          (referred_by os id) (references_fall digest os good id)
+          (referred_by os id) (references_fall digest os held id)
       | inr le ↦ elim (or_cases _ _ h) [
         | inl on ↦ elim (cases_lt (place_of id os) (length os)) [
           | inl lt ↦
@@ -250,14 +250,14 @@ module _ (digest : List ℕ → List ℕ) (os : List Object) (good : AreObjects 
         let both : had_or_below (object_at p os).id ≡ true = led.reaches.in_each had_or_below
         (or_left _ _ (All-contains (IsOn os m.had) haves led.from w.had.begun led.among)) had-closed in
         let here : (get_or m.had p true || nat_lt p n) ≡ true =
-        subst (λ (q : ℕ). (get_or m.had q true || nat_lt q n) ≡ true) (good.distinct p lt) both in
+        subst (λ (q : ℕ). (get_or m.had q true || nat_lt q n) ≡ true) (held.distinct p lt) both in
         elim (or_cases (get_or m.had p true) (nat_lt p n) here) [
           | inl on ↦ sym (on_either m.had p (let s = w.had.size in omega arith)) ∙ on
           | inr less ↦ absurd (below-not p n from less)
         ]
 
     had-led : (p : ℕ) → get_or m.had p false ≡ true → is_reached_by os haves (object_at p os).id ≡ true
-    had-led p on = led-reached digest os good haves (object_at p os).id (w.had.only p on)
+    had-led p on = led-reached digest os held haves (object_at p os).id (w.had.only p on)
 
     -- what the wanted names lead to is wanted, or the had names reach it
     abbrev wanted_or_reached : List ℕ → Bool
@@ -268,7 +268,7 @@ module _ (digest : List ℕ → List ℕ) (os : List Object) (good : AreObjects 
     reached-closed id h =
         All-weaker (Contains (referred_by os id)) (λ b. IsTrue (wanted_or_reached b))
         (λ b among. or_left _ (get_or m.wanted (place_of b os) true)
-        (led-reached digest os good haves b (led-next os haves id b (reached-led digest os good haves id h) among)))
+        (led-reached digest os held haves b (led-next os haves id b (reached-led digest os held haves id h) among)))
         (referred_by os id) (All-contains_itself (referred_by os id))
 
     not-had : (p : ℕ) → is_reached_by os haves (object_at p os).id ≡ false → get_or m.had p false ≡ false
@@ -313,16 +313,16 @@ module _ (digest : List ℕ → List ℕ) (os : List Object) (good : AreObjects 
           | inl holds ↦ absurd (never-both _ unreached holds)
           | inr on ↦
               sym (on_either m.wanted p (let s = w.wanted.size in omega arith))
-              ∙ subst (λ (q : ℕ). get_or m.wanted q true ≡ true) (good.distinct p lt) on
+              ∙ subst (λ (q : ℕ). get_or m.wanted q true ≡ true) (held.distinct p lt) on
         ]
 
     open-missing : (p : ℕ) → p < length os → is_open m p ≡ true
         → is_missing os wants haves (object_at p os) ≡ true
     open-missing p lt opened =
-        let holds = led-reached digest os good wants (object_at p os).id (w.wanted.only p (wanted-of m p opened)) in
+        let holds = led-reached digest os held wants (object_at p os).id (w.wanted.only p (wanted-of m p opened)) in
         elim (cases_Bool (is_reached_by os haves (object_at p os).id)) [
           | inl reached ↦
-              let on = had-on p (above p opened) lt (reached-led digest os good haves (object_at p os).id reached) in
+              let on = had-on p (above p opened) lt (reached-led digest os held haves (object_at p os).id reached) in
               absurd (never-both _ (not-had-of m p opened) on)
           | inr unreached ↦ ap (λ (b : Bool). b && not (is_reached_by os haves (object_at p os).id)) holds ∙ ap not unreached
         ]
@@ -331,7 +331,7 @@ module _ (digest : List ℕ → List ℕ) (os : List Object) (good : AreObjects 
         → is_open m p ≡ true
     missing-opened p lt h =
         let both = both-of (is_reached_by os wants (object_at p os).id) (is_reached_by os haves (object_at p os).id) h in
-        open-of m p (wanted-on p lt (reached-led digest os good wants (object_at p os).id both.0) both.1)
+        open-of m p (wanted-on p lt (reached-led digest os held wants (object_at p os).id both.0) both.1)
         (not-had p both.1)
 
     pub settled : (p : ℕ) → p < length os → is_open m p ≡ is_missing os wants haves (object_at p os)
@@ -339,14 +339,14 @@ module _ (digest : List ℕ → List ℕ) (os : List Object) (good : AreObjects 
 
 -- ---- the loop
 
-module _ (digest : List ℕ → List ℕ) (os : List Object) (good : AreObjects digest os)
+module _ (digest : List ℕ → List ℕ) (os : List Object) (held : AreHeld digest os)
     (wants haves : List (List ℕ)) where
   pub sweep-begun : (n : ℕ) (m : Marks) → n ≡ length os → m ≡ first_marks os wants haves
       → IsSweep os wants haves n 0 m
   sweep-begun n m whole is =
       subst (λ (k : ℕ). IsSweep os wants haves k 0 m) (sym whole)
       (subst (λ (l : Marks). IsSweep os wants haves (length os) 0 l) (sym is)
-      (sweep-first digest os good wants haves))
+      (sweep-first digest os held wants haves))
 
   pub sweep-step : (place n found : ℕ) (m l : Marks) (b : Bool) → place ≡ suc n → n < length os
       → IsSweep os wants haves place found m → l ≡ marks_at os m n → b ≡ is_open m n
@@ -354,7 +354,7 @@ module _ (digest : List ℕ → List ℕ) (os : List Object) (good : AreObjects 
   sweep-step place n found m l b at within w is told =
       subst (λ (k : Marks). IsSweep os wants haves n (found + from_bool b) k) (sym is)
       (subst (λ (x : Bool). IsSweep os wants haves n (found + from_bool x) (marks_at os m n)) (sym told)
-      (sweep-next digest os good wants haves n found m within (subst (λ (k : ℕ). IsSweep os wants haves k found m) at w)))
+      (sweep-next digest os held wants haves n found m within (subst (λ (k : ℕ). IsSweep os wants haves k found m) at w)))
 
 -- The two ways in which a sweep ends.
 pub none-left : (os : List Object) (wants haves : List (List ℕ)) (n found count : ℕ) (m : Marks)

@@ -6,7 +6,7 @@ use Rattle.std.proofs.lemmas.Bool.{cases_Bool, cases_lt}
 use Rattle.std.proofs.lemmas.List.Elements.{All-nil, All-cons, All-weaker, Contains-get_or}
 use Rattle.std.proofs.lemmas.List.Folds.{list_all_at}
 use Rattle.std.proofs.lemmas.List.Kept.{AllPairs-filter}
-use Rattle.git_model.specs.GoodRepository.{AreObjects}
+use Rattle.git_model.specs.HeldObjects.{AreHeld}
 use Rattle.git_model.specs.Reach.{IsClosed}
 use Rattle.git_model.specs.References.{no_object, object_at, place_of, referred_by}
 use Rattle.git_model.specs.Repository.{Object, object_named}
@@ -61,14 +61,14 @@ first-of-both : (a b : Bool) → (a && not b) ≡ true → a ≡ true
 first-of-both true b e = refl
 first-of-both false b e = cc
 
-module _ (digest : List ℕ → List ℕ) (os : List Object) (good : AreObjects digest os)
+module _ (digest : List ℕ → List ℕ) (os : List Object) (held : AreHeld digest os)
     (wants haves : List (List ℕ)) where
   all_in_order : AllPairs (λ (o p : Object). place_of o.id os < place_of p.id os) os
   unfolding object_at
   all_in_order i j d less lt =
       let a = ap (λ (o : Object). place_of o.id os) (same-at os i d no_object (omega arith)) in
       let b = ap (λ (o : Object). place_of o.id os) (same-at os j d no_object lt) in
-      let e = good.distinct i (omega arith) in let f = good.distinct j lt in omega arith
+      let e = held.distinct i (omega arith) in let f = held.distinct j lt in omega arith
 
   pub in-order : AllPairs (λ (o p : Object). place_of o.id os < place_of p.id os) (missing os wants haves)
   in-order =
@@ -100,13 +100,13 @@ module _ (digest : List ℕ → List ℕ) (os : List Object) (good : AreObjects 
       → All (λ id. (is_reached_by os haves id ≡ true)
       ⊎ Contains (map (λ p. p.id) (missing os wants haves)) id) (referred_by os o.id)
   referred o is =
-      let led = reached-led digest os good wants o.id (first-of-both _ _ is) in
-      let falls = references_fall digest os good o.id in
+      let led = reached-led digest os held wants o.id (first-of-both _ _ is) in
+      let falls = references_fall digest os held o.id in
       λ k d lt.
       let id : List ℕ = get_or (referred_by os o.id) k d in
       let less = falls k d lt in let whole = place_within o.id os in
       either id (omega arith)
-      (led-reached digest os good wants id
+      (led-reached digest os held wants id
       (led-next os wants o.id id led (Contains-get_or (referred_by os o.id) k d lt)))
 
   pub closed : All (λ o. All (λ id. (is_reached_by os haves id ≡ true)
@@ -130,12 +130,12 @@ module _ (digest : List ℕ → List ℕ) (os : List Object) (good : AreObjects 
   there-closed id h =
       All-weaker (λ q. place_of q os < place_of id os) (λ b. IsTrue (nat_lt (place_of b os) (length os)))
       (λ b less. let whole = place_within id os in below-test (place_of b os) (length os) (omega arith))
-      (referred_by os id) (references_fall digest os good id)
+      (referred_by os id) (references_fall digest os held id)
 
   pub whole : has_all os wants ≡ true → (id : List ℕ) → is_reached_by os wants id ≡ true
       → (is_reached_by os haves id ≡ true) ⊎ Contains (map (λ o. o.id) (missing os wants haves)) id
   whole known id h =
-      let led = reached-led digest os good wants id h in
+      let led = reached-led digest os held wants id h in
       let first : place_of led.from os < length os = named-there led.from (elim (cases_Bool (is_some (object_named led.from os))) [
         | inl on ↦ on
         | inr off ↦

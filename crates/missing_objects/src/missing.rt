@@ -1,7 +1,7 @@
 //! The places of the missing objects.
 
 ghost use Rattle.std.specs.Prelude.{◌≡◌, ◌≤◌, [], length, IfOk, IfErr, Err, true, false};
-ghost use Rattle.git_model.specs.GoodRepository.{AreObjects};
+ghost use Rattle.git_model.specs.HeldObjects.{AreHeld};
 ghost use Rattle.missing_objects.specs.{Marks.{open_places}, Missing.{has_all, missing_places}};
 ghost use Rattle.missing_objects.specs.declared.fault.MissingFault.TheVariants as fault;
 
@@ -41,7 +41,7 @@ fn swept_places<N: Naming>(
     wants: &[Name],
     haves: &[Name],
 ) -> Result<Vec<usize>, Memory>
-    ensures { AreObjects N.digest_of objects.now → IfOk result (λ places. places.items
+    ensures { AreHeld N.digest_of objects.now → IfOk result (λ places. places.items
         ≡ missing_places objects.now wants.now haves.now) }
 {
     let len = objects.len();
@@ -56,7 +56,7 @@ fn swept_places<N: Naming>(
 /// the repository, counted from 0: git-rev-list(1), `--objects WANT.. ^HAVE..`, but exact. An object
 /// comes after all that it refers to. A had name that is that of no object counts for nothing.
 ///
-/// The answer is right where the objects are good (AreObjects of git_model). `UnknownWant` (16) if a
+/// The answer is right where the objects are held (`AreHeld` of git_model). `UnknownWant` (16) if a
 /// wanted name is that of no object; else `Memory` (90) if an allocation fails. Nothing changes.
 pub fn missing_places<N: Naming>(
     alloc: Global,
@@ -67,7 +67,7 @@ pub fn missing_places<N: Naming>(
     ensures known { IfOk result (λ places. has_all objects.now wants.now ≡ true) }
     ensures unknown { has_all objects.now wants.now ≡ false → result ≡ Err fault.UnknownWant }
     ensures refused { has_all objects.now wants.now ≡ true → IfErr result (λ e. e ≡ fault.Memory) }
-    ensures missing { AreObjects N.digest_of objects.now → IfOk result (λ places. places.items
+    ensures missing { AreHeld N.digest_of objects.now → IfOk result (λ places. places.items
         ≡ missing_places objects.now wants.now haves.now) }
 {
     if !has_all(objects, wants) {

@@ -4,7 +4,7 @@
 //! wanted and whether it is had is settled. It stops when no open object lies below.
 
 ghost use Rattle.std.specs.Prelude.{◌≡◌, ◌<◌, ◌≤◌, ℕ, List, [], length, IfOk, OnOk};
-ghost use Rattle.git_model.specs.{GoodRepository.{AreObjects}, References.{object_at, referred_by}};
+ghost use Rattle.git_model.specs.{HeldObjects.{AreHeld}, References.{object_at, referred_by}};
 ghost use Rattle.missing_objects.specs.Marks.{AreMarksOf, first_marks, is_open, marks_at};
 ghost use Rattle.missing_objects.specs.{Marks.{open_places, with_marks}, Missing.{is_missing}};
 
@@ -25,7 +25,7 @@ fn mark_references<N: Naming>(
     requires size { AreMarksOf objects.now marks.old }
     requires there { place < length objects.now }
     ensures size { AreMarksOf objects.now marks.new }
-    ensures marked { AreObjects N.digest_of objects.now
+    ensures marked { AreHeld N.digest_of objects.now
         → OnOk result (marks.new ≡ with_marks with objects.now marks.old
         (referred_by objects.now (object_at place objects.now).id)) }
 {
@@ -45,7 +45,7 @@ fn visit<N: Naming>(
     requires there { place < length objects.now }
     ensures size { AreMarksOf objects.now marks.new }
     ensures told { IfOk result (λ found. found ≡ is_open marks.old place) }
-    ensures passed { AreObjects N.digest_of objects.now
+    ensures passed { AreHeld N.digest_of objects.now
         → OnOk result (marks.new ≡ marks_at objects.now marks.old place) }
 {
     if marks.is_had(place) {
@@ -71,10 +71,10 @@ pub fn sweep<N: Naming>(
     requires size { AreMarksOf objects.now marks.old }
     ensures size { AreMarksOf objects.now marks.new }
     ensures within { IfOk result (λ low. low ≤ length objects.now) }
-    ensures none { AreObjects N.digest_of objects.now → (wants haves : List (List ℕ))
+    ensures none { AreHeld N.digest_of objects.now → (wants haves : List (List ℕ))
         → marks.old ≡ first_marks objects.now wants haves
         → IfOk result (λ low. open_places marks.new low ≡ []) }
-    ensures settled { AreObjects N.digest_of objects.now → (wants haves : List (List ℕ))
+    ensures settled { AreHeld N.digest_of objects.now → (wants haves : List (List ℕ))
         → marks.old ≡ first_marks objects.now wants haves
         → OnOk result ((p : ℕ) → p < length objects.now
         → is_open marks.new p ≡ is_missing objects.now wants haves (object_at p objects.now)) }

@@ -6,7 +6,7 @@ use Rattle.std.proofs.lemmas.List.{map-append, take_all, take_more}
 use Rattle.std.proofs.lemmas.List.Elements.{filter-append, filter_map-append}
 use Rattle.std.proofs.lemmas.Option.{get_or_from_slice_get, slice_get-get_or, slice_get-map, unwrap_or-slice_get}
 use Rattle.git_model.specs.Content.{Content, no_content}
-use Rattle.git_model.specs.GoodRepository.{AreObjects}
+use Rattle.git_model.specs.HeldObjects.{AreHeld}
 use Rattle.git_model.specs.Repository.{Object}
 use Rattle.git_model.specs.References.{object_at, no_object, place_of}
 use Rattle.missing_objects.specs.Missing.{is_missing, missing, missing_places}
@@ -58,7 +58,7 @@ at-none os places position place found none =
     ap (λ (x : Object). Some x.content) (ap (λ (o : Option Object). unwrap_or o no_object) none ∙ unwrap_or-slice_get os place no_object)
     ∙ sym (looked-up os places position place found)
 
-module _ (digest : List ℕ → List ℕ) (os : List Object) (good : AreObjects digest os) (wants haves : List (List ℕ)) where
+module _ (digest : List ℕ → List ℕ) (os : List Object) (held : AreHeld digest os) (wants haves : List (List ℕ)) where
   abbrev m : Object → Bool
   m o = is_missing os wants haves o
 
@@ -79,7 +79,7 @@ module _ (digest : List ℕ → List ℕ) (os : List Object) (good : AreObjects 
     listed-one : (k : ℕ) → k < length os → (b : Bool) → m (object_at k os) ≡ b
         → listed (map place (filter m (object_at k os ∷ []))) ≡ map f (filter m (object_at k os ∷ []))
     listed-one k lt false is = rw is none
-    listed-one k lt true is = rw (is, good.distinct k lt) (one k lt)
+    listed-one k lt true is = rw (is, held.distinct k lt) (one k lt)
 
     listed-to : (k : ℕ) → k ≤ length os → listed (map place (filter m (take k os))) ≡ map f (filter m (take k os))
     listed-to zero le = none

@@ -1,7 +1,7 @@
 //! The pack of the missing objects, over a writer.
 
 ghost use Rattle.byte_devices.specs.Device.{device_of, seen};
-ghost use Rattle.git_model.specs.GoodRepository.{AreObjects};
+ghost use Rattle.git_model.specs.HeldObjects.{AreHeld};
 ghost use Rattle.pool_file_format.specs.Sinks.{Writes};
 ghost use Rattle.pack_text.specs.PackText.{pack_text};
 ghost use Rattle.pack_objects.specs.Packs.{WritesPack, contents_at, pack_asked};
@@ -59,7 +59,7 @@ fn write_places<N: StreamingDigest, W: Write>(
 /// of the repository, and its digest under this naming. A had name that is that of no object counts
 /// for nothing. The pack is never held in memory.
 ///
-/// The answer is right where the objects are good (AreObjects of git_model). `UnknownObject` (16) if
+/// The answer is right where the objects are held (`AreHeld` of git_model). `UnknownObject` (16) if
 /// a wanted name is that of no object; else `Memory` (90) if an allocation fails. Nothing is written
 /// then. `Device` (68) if a call of the writer failed; a prefix of the pack is written then.
 pub fn write_missing<N: StreamingDigest, W: Write>(
@@ -70,7 +70,7 @@ pub fn write_missing<N: StreamingDigest, W: Write>(
     haves: &[Name],
     writer: &mut Counted<W>,
 ) -> Result<(), PackFault>
-    ensures { AreObjects N.digest_of objects.now
+    ensures { AreHeld N.digest_of objects.now
         → WritesPack N.digest_of (pack_asked objects.now wants.now haves.now)
         (seen (W.contents (device_of writer.old)) writer.old) result
         (seen (W.contents (device_of writer.new)) writer.new) }

@@ -2,7 +2,7 @@
 
 ghost use Rattle.std.specs.Prelude.{◌≡◌, IfOk, filter_map, slice_get, true, false, Err, IfErr};
 ghost use Rattle.std.specs.Option.{option_map};
-ghost use Rattle.git_model.specs.GoodRepository.{AreObjects};
+ghost use Rattle.git_model.specs.HeldObjects.{AreHeld};
 ghost use Rattle.missing_objects.specs.Missing.{has_all};
 ghost use Rattle.pack_objects.specs.Missing.{TellsMissing, missing_asked, told_of};
 ghost use Rattle.pack_objects.specs.declared.fault.PackFault.TheVariants as fault;
@@ -50,7 +50,7 @@ fn told_at<N: Naming>(
 /// the order of the repository: an object comes after all that it refers to. A had name that is that
 /// of no object counts for nothing.
 ///
-/// The answer is right where the objects are good (AreObjects of git_model). `UnknownObject` (16) if
+/// The answer is right where the objects are held (`AreHeld` of git_model). `UnknownObject` (16) if
 /// a wanted name is that of no object; else `Memory` (90) if an allocation fails. Nothing changes.
 pub fn missing<N: Naming>(
     alloc: Global,
@@ -60,7 +60,7 @@ pub fn missing<N: Naming>(
 ) -> Result<Vec<MissingObject>, PackFault>
     ensures unknown { has_all objects.now wants.now ≡ false → result ≡ Err fault.UnknownObject }
     ensures refused { has_all objects.now wants.now ≡ true → IfErr result (λ e. e ≡ fault.Memory) }
-    ensures told { AreObjects N.digest_of objects.now
+    ensures told { AreHeld N.digest_of objects.now
         → TellsMissing (missing_asked objects.now wants.now haves.now) result }
 {
     let places = missing_places(alloc, objects, wants, haves)?;

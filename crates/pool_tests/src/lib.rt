@@ -1,5 +1,5 @@
-//! Tests of the pool, of the index of names, of tables and of refs, with a plain pool and a plain
-//! table to compare them with.
+//! Tests of the pool, of the index of names, of tables, of walks and of refs, with a plain pool and
+//! a plain table to compare them with.
 #![tactic(auto)]
 
 #[cfg(test)]
@@ -10,3 +10,5 @@ mod pools;
 mod refs;
 #[cfg(test)]
 mod tables;
+#[cfg(test)]
+mod walks;

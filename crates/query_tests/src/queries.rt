@@ -1,6 +1,7 @@
 //! What queries print, compared with what Git's commands print over the same objects and refs.
 
 mod exports;
+mod other_programs;
 
 use crate::history::fields::{field, is_number};
 use crate::history::{History, REFS, sets_all};

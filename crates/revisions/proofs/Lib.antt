@@ -10,5 +10,5 @@ pub mod Steppings
 pub mod Steps
 pub mod Suffixes
 pub mod TagWays
-pub mod Valid
+pub mod HeldContents
 pub mod Differences

@@ -1,5 +1,5 @@
 -- Ways along tags, and what they say of peeling.
-use Rattle.std.proofs.Common.{◌≡◌, ℕ, Bool, true, false, cond, List, length, Option, None, Some, refl, sym, subst, ap, ◌∙◌, ◌↔◌, inl, inr}
+use Rattle.std.proofs.Common.{◌≡◌, ℕ, Bool, true, false, cond, List, length, Option, None, Some, refl, sym, subst, ◌∙◌, ◌↔◌, inl, inr}
 use Rattle.std.specs.Prelude.{◌≢◌}
 use Rattle.std.specs.Map.{lookup}
 use Rattle.std.specs.Str.{bytes_eq}
@@ -9,7 +9,7 @@ use Rattle.git_model.specs.declared.kind.Kind.{Kind}
 use Rattle.git_model.specs.declared.kind.Kind.TheVariants as kind
 use Rattle.git_model.specs.Kind.{kind_word}
 use Rattle.git_model.specs.Content.{Content}
-use Rattle.git_model.specs.GoodRepository.{AreObjects}
+use Rattle.git_model.specs.HeldObjects.{AreHeld}
 use Rattle.git_model.specs.Peeling.{ComesFirstTo, at_once, later, is_no_tag, is_of, is_there_untagged, next_from, next_to, peeled_to, without_tags}
 use Rattle.git_model.specs.References.{place_of}
 use Rattle.git_model.specs.Repository.{Object, object_named}
@@ -86,33 +86,33 @@ same_option None None same = refl
 same_option None (Some y) same = (same y).1 refl
 same_option (Some x) p same = sym ((same x).0 refl)
 
-peeling_is : (digest : List ℕ → List ℕ) (os : List Object) → AreObjects digest os
+peeling_is : (digest : List ℕ → List ℕ) (os : List Object) → AreHeld digest os
     → (wanted : Kind) (id found : List ℕ) → (peeled_to os wanted id ≡ Some found)
     ↔ ComesFirstTo (is_of os wanted) (next_to os wanted) id found
 unfolding peeled_to
-peeling_is digest os good wanted id found =
+peeling_is digest os held wanted id found =
     first_is (is_of os wanted) (next_to os wanted) (λ k. place_of k os)
-    (next_falls digest os good wanted) (length os) id found (place_within id os)
+    (next_falls digest os held wanted) (length os) id found (place_within id os)
 
 -- an object is peeled to what the end of its tags is peeled to
-pub peeled_past : (digest : List ℕ → List ℕ) (os : List Object) → AreObjects digest os
+pub peeled_past : (digest : List ℕ → List ℕ) (os : List Object) → AreHeld digest os
     → (wanted : Kind) (id end : List ℕ) → wanted ≢ kind.Tag → EndsAt os id end
     → peeled_to os wanted end ≡ peeled_to os wanted id
-peeled_past digest os good wanted id end other way =
+peeled_past digest os held wanted id end other way =
     same_option (peeled_to os wanted end) (peeled_to os wanted id) (λ found. (
-      λ is. (peeling_is digest os good wanted id found).1 ((same_first os wanted other found way).0
-          ((peeling_is digest os good wanted end found).0 is)),
-      λ is. (peeling_is digest os good wanted end found).1 ((same_first os wanted other found way).1
-          ((peeling_is digest os good wanted id found).0 is)),
+      λ is. (peeling_is digest os held wanted id found).1 ((same_first os wanted other found way).0
+          ((peeling_is digest os held wanted end found).0 is)),
+      λ is. (peeling_is digest os held wanted end found).1 ((same_first os wanted other found way).1
+          ((peeling_is digest os held wanted id found).0 is)),
     ))
 
 -- without its tags it is that end
-pub without_is : (digest : List ℕ → List ℕ) (os : List Object) → AreObjects digest os
+pub without_is : (digest : List ℕ → List ℕ) (os : List Object) → AreHeld digest os
     → (id end : List ℕ) → EndsAt os id end → without_tags os id ≡ Some end
 unfolding without_tags
-without_is digest os good id end way =
+without_is digest os held id end way =
     (first_is (is_there_untagged os) (next_to os kind.Blob) (λ k. place_of k os)
-    (next_falls digest os good kind.Blob) (length os) id end (place_within id os)).1 way
+    (next_falls digest os held kind.Blob) (length os) id end (place_within id os)).1 way
 
 -- ---- what is kept
 

@@ -1,36 +1,32 @@
-//! What the contents of an object refer to. Malformed contents are in no good repository; for them
-//! the answer is not specified.
+//! What the contents of an object refer to. Contents that cannot be read are in no repository; for
+//! them the answer is not specified.
 
-ghost use Rattle.std.specs.{Prelude.{◌≡◌, List, find, slice_get, Some, IfOk}, Option.{option_map}};
+ghost use Rattle.std.specs.{Prelude.{◌≡◌, find, slice_get, Some, IfOk}, Option.{option_map}};
 ghost use Rattle.std.specs.Str.{bytes_eq};
-ghost use Rattle.git_model.specs.Commit.{Commit, CanWriteCommit, commit_contents};
 ghost use Rattle.git_model.specs.{CommitReading.{commit_read}, TagReading.{tag_read}};
-ghost use Rattle.git_model.specs.{Tag.{Tag, CanWriteTag, tag_contents}, TreeReading.{tree_read}};
-ghost use Rattle.git_model.specs.Tree.{TreeEntry as Entry, CanWriteTree, tree_contents};
+ghost use Rattle.git_model.specs.{TreeReading.{tree_read}, Readable.{IsReadable}};
 ghost use Rattle.git_objects.specs.Parts.{entry_of, entries_of};
 
 use commit_walk::first_parent_in;
-use git_objects::{Memory, Name, TreeEntry, read_commit, read_tag, read_tree};
+use git_objects::{Kind, Memory, Name, TreeEntry, look_commit, look_tag, look_tree};
 use std::alloc::Global;
 
-/// The object that a tag points to. `Memory` (90) where there is no room to read the tag.
-pub(crate) fn target_in(alloc: Global, contents: &[u8]) -> Result<Option<Name>, Memory>
-    ensures { (t : Tag) → CanWriteTag t → contents.now ≡ tag_contents t
-        → IfOk result (λ r. r ≡ Some (tag_read contents.now).target) }
+/// The object that a tag points to.
+pub(crate) fn target_in(contents: &[u8]) -> Option<Name>
+    ensures { IsReadable Kind.Tag contents.now → result ≡ Some (tag_read contents.now).target }
 {
-    match read_tag(alloc, contents) {
-        Ok(Some(parts)) => Ok(Some(parts.target)),
-        Ok(None) => Ok(None),
-        Err(refused) => Err(refused),
+    match look_tag(contents) {
+        Some(parts) => Some(parts.target),
+        None => None,
     }
 }
 
 /// The tree of a commit. `Memory` (90) where there is no room to read the commit.
 pub(crate) fn tree_in(alloc: Global, contents: &[u8]) -> Result<Option<Name>, Memory>
-    ensures { (c : Commit) → CanWriteCommit c → contents.now ≡ commit_contents c
+    ensures { IsReadable Kind.Commit contents.now
         → IfOk result (λ r. r ≡ Some (commit_read contents.now).tree) }
 {
-    match read_commit(alloc, contents)? {
+    match look_commit(alloc, contents)? {
         Some(parts) => Ok(Some(parts.tree)),
         None => Ok(None),
     }
@@ -50,13 +46,13 @@ pub(crate) fn parent_in(
     contents: &[u8],
     position: usize,
 ) -> Result<Option<Name>, Memory>
-    ensures { (c : Commit) → CanWriteCommit c → contents.now ≡ commit_contents c
+    ensures { IsReadable Kind.Commit contents.now
         → IfOk result (λ r. r ≡ slice_get (commit_read contents.now).parents position) }
 {
     if position == 0 {
         return Ok(first_parent_in(contents));
     }
-    match read_commit(alloc, contents)? {
+    match look_commit(alloc, contents)? {
         Some(parts) => Ok(name_at(&parts.ancestors, position)),
         None => Ok(None),
     }
@@ -76,11 +72,11 @@ pub(crate) fn entry_in<'a>(
     contents: &'a [u8],
     name: &[u8],
 ) -> Result<Option<TreeEntry<'a>>, Memory>
-    ensures { (es : List Entry) → CanWriteTree es → contents.now ≡ tree_contents es
+    ensures { IsReadable Kind.Tree contents.now
         → IfOk result (λ r. option_map entry_of r
         ≡ find (λ inner. bytes_eq inner.name name.now) (tree_read contents.now)) }
 {
-    match read_tree(alloc, contents)? {
+    match look_tree(alloc, contents)? {
         Some(entries) => Ok(entry_named(&entries, name)),
         None => Ok(None),
     }

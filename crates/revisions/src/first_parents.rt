@@ -2,7 +2,7 @@
 
 ghost use Rattle.std.specs.Prelude.{◌≡◌, ◌≢◌, ◌↔◌, ℕ, ◌^◌, ◌<◌, ◌≤◌, [], Some, Err, IsTrue, OnOk};
 ghost use Rattle.std.specs.Prelude.{IfErr, IfSome, List, length, slice_get};
-ghost use Rattle.git_model.specs.{Repository.{Object}, GoodRepository.{AreObjects}};
+ghost use Rattle.git_model.specs.{Repository.{Object}, HeldObjects.{AreHeld}};
 ghost use Rattle.revisions.specs.{Faults.{Gives}, FirstParents.{EndsOn, IsFirstParentChain}};
 ghost use Rattle.revisions.specs.Resolution.{nth_ancestor};
 
@@ -133,10 +133,10 @@ impl FirstParentCache {
     ) -> Result<Option<usize>, Fault>
         ensures ends { EndsOn other.now self.new n result }
         ensures begun { OnOk result (slice_get self.new 0 ≡ Some commit) }
-        ensures refused { AreObjects N.digest_of objects.now
+        ensures refused { AreHeld N.digest_of objects.now
             → IsFirstParentChain objects.now self.old → IfErr result (λ fault.
             fault ≢ Fault.Memory → nth_ancestor objects.now n commit ≡ Err fault) }
-        ensures chain { AreObjects N.digest_of objects.now → IsFirstParentChain objects.now self.old
+        ensures chain { AreHeld N.digest_of objects.now → IsFirstParentChain objects.now self.old
             → IsFirstParentChain objects.now self.new }
     {
         self.begin_at(commit)?;
@@ -160,10 +160,10 @@ impl FirstParentCache {
         at: usize,
     ) -> Result<Name, Fault>
         requires { at < length self.old }
-        ensures found { (commit : List ℕ) → AreObjects N.digest_of objects.now
+        ensures found { (commit : List ℕ) → AreHeld N.digest_of objects.now
             → IsFirstParentChain objects.now self.old → slice_get self.old at ≡ Some commit
             → Gives result (nth_ancestor objects.now n commit) }
-        ensures chain { AreObjects N.digest_of objects.now → IsFirstParentChain objects.now self.old
+        ensures chain { AreHeld N.digest_of objects.now → IsFirstParentChain objects.now self.old
             → IsFirstParentChain objects.now self.new }
         ensures stays { (i : ℕ) (id : List ℕ) → slice_get self.old i ≡ Some id
             → slice_get self.new i ≡ Some id }
@@ -187,13 +187,13 @@ impl FirstParentCache {
     ) -> Result<Name, Fault>
         requires few { n < 2 ^ 32 }
         requires ends { EndsOn self.old way.now n met }
-        ensures found { (commit : List ℕ) → AreObjects N.digest_of objects.now
+        ensures found { (commit : List ℕ) → AreHeld N.digest_of objects.now
             → IsFirstParentChain objects.now self.old → IsFirstParentChain objects.now way.now
             → OnOk met (slice_get way.now 0 ≡ Some commit)
             → IfErr met (λ fault.
             fault ≢ Fault.Memory → nth_ancestor objects.now n commit ≡ Err fault)
             → Gives result (nth_ancestor objects.now n commit) }
-        ensures chain { AreObjects N.digest_of objects.now → IsFirstParentChain objects.now self.old
+        ensures chain { AreHeld N.digest_of objects.now → IsFirstParentChain objects.now self.old
             → IsFirstParentChain objects.now self.new }
         ensures ends { EndsOn self.new way.now n met }
     {
@@ -240,9 +240,9 @@ impl FirstParentCache {
         n: u32,
         commit: Name,
     ) -> Result<Name, Fault>
-        ensures found { AreObjects N.digest_of objects.now → IsFirstParentChain objects.now self.old
+        ensures found { AreHeld N.digest_of objects.now → IsFirstParentChain objects.now self.old
             → Gives result (nth_ancestor objects.now n commit) }
-        ensures chain { AreObjects N.digest_of objects.now → IsFirstParentChain objects.now self.old
+        ensures chain { AreHeld N.digest_of objects.now → IsFirstParentChain objects.now self.old
             → IsFirstParentChain objects.now self.new }
     {
         let n = n as usize;

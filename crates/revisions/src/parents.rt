@@ -1,8 +1,8 @@
 //! Parents of commits: gitrevisions(7), `<rev>^<n>`.
 
-ghost use Rattle.std.specs.Prelude.{◌≡◌, List, IfOk, slice_get};
-ghost use Rattle.git_model.specs.{Repository.{Object}, References.{parents_in, parents_of}};
-ghost use Rattle.git_model.specs.GoodRepository.{AreObjects, IsValid};
+ghost use Rattle.std.specs.Prelude.{◌≡◌, IfOk, slice_get};
+ghost use Rattle.git_model.specs.References.{parents_in, parents_of};
+ghost use Rattle.git_model.specs.{HeldObjects.{AreHeld}, Readable.{IsReadable}};
 ghost use Rattle.revisions.specs.{Faults.{Gives}, Resolution.{nth_parent}};
 
 use crate::contents::parent_in;
@@ -18,7 +18,7 @@ fn parent_from(
     contents: &[u8],
     position: usize,
 ) -> Result<Option<Name>, Memory>
-    ensures { (os : List Object) → IsValid os kind contents.now
+    ensures { IsReadable kind contents.now
         → IfOk result (λ parent. parent ≡ slice_get (parents_in kind contents.now) position) }
 {
     match kind {
@@ -34,7 +34,7 @@ fn parent_at<N: Naming>(
     id: &Name,
     position: usize,
 ) -> Result<Option<Name>, Memory>
-    ensures { AreObjects N.digest_of objects.now
+    ensures { AreHeld N.digest_of objects.now
         → IfOk result (λ parent. parent ≡ slice_get (parents_of objects.now id.now) position) }
 {
     match objects.get(id) {
@@ -53,7 +53,7 @@ pub(crate) fn nth_parent<N: Naming>(
     n: u32,
     commit: Name,
 ) -> Result<Name, Fault>
-    ensures { AreObjects N.digest_of objects.now → Gives result (nth_parent objects.now n commit) }
+    ensures { AreHeld N.digest_of objects.now → Gives result (nth_parent objects.now n commit) }
 {
     if n == 0 {
         return Ok(commit);

@@ -1,7 +1,7 @@
 //! Peeling: gitrevisions(7), `<rev>^{<type>}` and `<rev>^{}`.
 
-ghost use Rattle.std.specs.Prelude.{◌≡◌, List, IfOk};
-ghost use Rattle.git_model.specs.{Repository.{Object}, GoodRepository.{AreObjects, IsValid}};
+ghost use Rattle.std.specs.Prelude.{◌≡◌, IfOk};
+ghost use Rattle.git_model.specs.{HeldObjects.{AreHeld}, Readable.{IsReadable}};
 ghost use Rattle.git_model.specs.Peeling.{is_of, is_there_untagged, next_from, next_to};
 ghost use Rattle.revisions.specs.{Faults.{Gives}, Ways.{is_end, first_end}};
 ghost use Rattle.revisions.specs.Resolution.{peeled, peeled_untagged};
@@ -40,11 +40,11 @@ fn next_from(
     kind: Kind,
     contents: &[u8],
 ) -> Result<Option<Name>, Memory>
-    ensures { (os : List Object) → IsValid os kind contents.now
+    ensures { IsReadable kind contents.now
         → IfOk result (λ next. next ≡ next_from wanted kind contents.now) }
 {
     match (kind, wanted) {
-        (Kind::Tag, _) => target_in(alloc, contents),
+        (Kind::Tag, _) => Ok(target_in(contents)),
         (Kind::Commit, Kind::Tree) => tree_in(alloc, contents),
         _ => Ok(None),
     }
@@ -57,7 +57,7 @@ pub(crate) fn next_to<N: Naming>(
     wanted: Kind,
     id: &Name,
 ) -> Result<Option<Name>, Memory>
-    ensures { AreObjects N.digest_of objects.now
+    ensures { AreHeld N.digest_of objects.now
         → IfOk result (λ next. next ≡ next_to objects.now wanted id.now) }
 {
     match objects.get(id) {
@@ -78,14 +78,14 @@ fn is_end<N: Naming>(objects: &Objects<'_, N>, wanted: Option<Kind>, id: &Name) 
 }
 
 // The object at which the peeling of this one ends. It gives up after as many steps as there are
-// objects: among good objects none takes more.
+// objects: among held objects none takes more.
 fn first_end<N: Naming>(
     alloc: Global,
     objects: &Objects<'_, N>,
     wanted: Option<Kind>,
     id: Name,
 ) -> Result<Option<Name>, Memory>
-    ensures { AreObjects N.digest_of objects.now
+    ensures { AreHeld N.digest_of objects.now
         → IfOk result (λ end. end ≡ first_end objects.now wanted id) }
 {
     let kind = wanted.unwrap_or(Kind::Blob);
@@ -109,7 +109,7 @@ fn first_end<N: Naming>(
 ///
 /// `Fault::WrongKind` (15) where this leads to no object of the kind, also where no object has this
 /// name; `Fault::Memory` (90) where there is no room to read a commit or a tag. Nothing changes.
-/// The objects are those of a good repository; among others the answer is not specified.
+/// The objects are held; among others the answer is not specified.
 #[tactic(auto, unfolding(git_model::specs::Peeling::peeled_to))]
 pub fn peel<N: Naming>(
     alloc: Global,
@@ -117,7 +117,7 @@ pub fn peel<N: Naming>(
     wanted: Kind,
     id: Name,
 ) -> Result<Name, Fault>
-    ensures { AreObjects N.digest_of objects.now → Gives result (peeled objects.now wanted id) }
+    ensures { AreHeld N.digest_of objects.now → Gives result (peeled objects.now wanted id) }
 {
     first_end(alloc, objects, Some(wanted), id)?.ok_or(Fault::WrongKind)
 }
@@ -130,7 +130,7 @@ pub fn peel_tags<N: Naming>(
     objects: &Objects<'_, N>,
     id: Name,
 ) -> Result<Name, Fault>
-    ensures { AreObjects N.digest_of objects.now → Gives result (peeled_untagged objects.now id) }
+    ensures { AreHeld N.digest_of objects.now → Gives result (peeled_untagged objects.now id) }
 {
     first_end(alloc, objects, None, id)?.ok_or(Fault::WrongKind)
 }

@@ -1,7 +1,7 @@
 //! The commits of a range: gitrevisions(7), "Specifying Ranges".
 
 ghost use Rattle.std.specs.Prelude.{◌≡◌, true, All, IfOk};
-ghost use Rattle.git_model.specs.{GoodRepository.{AreObjects}, Peeling.{is_of}, Reach.{reaches}};
+ghost use Rattle.git_model.specs.{HeldObjects.{AreHeld}, Peeling.{is_of}, Reach.{reaches}};
 ghost use Rattle.commit_walk.specs.Logs.{log_of};
 ghost use Rattle.tenant_tables.specs.{Objects.{objects}, IsBackedBy.{IsBackedBy}, View.{in_sight}};
 ghost use Rattle.revisions.specs.{Faults.{Gives, GivesBy}, FirstParents.{IsFirstParentChain}};
@@ -35,7 +35,7 @@ pub fn range<N: Naming>(
     text: &[u8],
 ) -> Result<Vec<Name>, Fault>
     requires { IsBackedBy N.digest_of pool.now table.now.entries }
-    ensures { let os = objects pool.now (in_sight sight table.now) in AreObjects N.digest_of os
+    ensures { let os = objects pool.now (in_sight sight table.now) in AreHeld N.digest_of os
         → GivesBy (λ ids. ids.items) result (range_log os refs.now text.now) }
 {
     let range = read_range(alloc, text)?;
@@ -49,7 +49,7 @@ pub fn range<N: Naming>(
 ///
 /// The left side is decided wholly before the right, with the refusals of `resolve_commit`. Takes
 /// memory for the walks, their chain and the list; `Fault::Memory` (90) where there is none. The
-/// answer is that of gitrevisions(7) where the objects in sight are good (AreObjects of git_model)
+/// answer is that of gitrevisions(7) where the objects in sight are held (AreHeld of git_model)
 /// and the chain is one of theirs.
 pub fn resolve_range<N: Naming>(
     alloc: Global,
@@ -58,11 +58,11 @@ pub fn resolve_range<N: Naming>(
     chain: &mut FirstParentCache,
     range: &Range<Expression<'_>>,
 ) -> Result<Vec<Name>, Fault>
-    ensures log { AreObjects N.digest_of objects.now → IsFirstParentChain objects.now chain.old
+    ensures log { AreHeld N.digest_of objects.now → IsFirstParentChain objects.now chain.old
         → GivesBy (λ ids. ids.items) result (named_log objects.now refs.now range.now) }
-    ensures commits { AreObjects N.digest_of objects.now
+    ensures commits { AreHeld N.digest_of objects.now
         → IfOk result (λ ids. All (λ id. is_of objects.now Kind.Commit id ≡ true) ids.items) }
-    ensures chain { AreObjects N.digest_of objects.now → IsFirstParentChain objects.now chain.old
+    ensures chain { AreHeld N.digest_of objects.now → IsFirstParentChain objects.now chain.old
         → IsFirstParentChain objects.now chain.new }
 {
     let range = range_named(alloc, objects, refs, chain, range)?;
@@ -78,9 +78,9 @@ fn range_named<N: Naming>(
     chain: &mut FirstParentCache,
     range: &Range<Expression<'_>>,
 ) -> Result<Range<Name>, Fault>
-    ensures named { AreObjects N.digest_of objects.now → IsFirstParentChain objects.now chain.old
+    ensures named { AreHeld N.digest_of objects.now → IsFirstParentChain objects.now chain.old
         → Gives result (range_named objects.now refs.now range.now) }
-    ensures chain { AreObjects N.digest_of objects.now → IsFirstParentChain objects.now chain.old
+    ensures chain { AreHeld N.digest_of objects.now → IsFirstParentChain objects.now chain.old
         → IsFirstParentChain objects.now chain.new }
 {
     match range {
@@ -108,9 +108,9 @@ fn both_named<N: Naming>(
     left: &Expression<'_>,
     right: &Expression<'_>,
 ) -> Result<(Name, Name), Fault>
-    ensures named { AreObjects N.digest_of objects.now → IsFirstParentChain objects.now chain.old
+    ensures named { AreHeld N.digest_of objects.now → IsFirstParentChain objects.now chain.old
         → Gives result (both_named objects.now refs.now left.now right.now) }
-    ensures chain { AreObjects N.digest_of objects.now → IsFirstParentChain objects.now chain.old
+    ensures chain { AreHeld N.digest_of objects.now → IsFirstParentChain objects.now chain.old
         → IsFirstParentChain objects.now chain.new }
 {
     let left = resolve_commit(alloc, objects, refs, chain, left)?;
@@ -124,7 +124,7 @@ fn log_of_range<N: Naming>(
     objects: &Objects<'_, N>,
     range: &Range<Name>,
 ) -> Result<Vec<Name>, Memory>
-    ensures { AreObjects N.digest_of objects.now → IfOk result (λ ids.
+    ensures { AreHeld N.digest_of objects.now → IfOk result (λ ids.
         ids.items ≡ log_of objects.now (is_in_range objects.now range.now)) }
 {
     match range {
@@ -140,7 +140,7 @@ fn log_from<N: Naming>(
     objects: &Objects<'_, N>,
     tip: &Name,
 ) -> Result<Vec<Name>, Memory>
-    ensures { AreObjects N.digest_of objects.now → IfOk result (λ ids.
+    ensures { AreHeld N.digest_of objects.now → IfOk result (λ ids.
         ids.items ≡ log_of objects.now (reaches objects.now tip.now)) }
 {
     let flags = reached_from(alloc, objects, tip)?;

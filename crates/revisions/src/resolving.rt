@@ -1,6 +1,6 @@
 //! What an expression names: gitrevisions(7), "Specifying Revisions".
 
-ghost use Rattle.git_model.specs.GoodRepository.{AreObjects};
+ghost use Rattle.git_model.specs.HeldObjects.{AreHeld};
 ghost use Rattle.tenant_tables.specs.{Objects.{objects}, IsBackedBy.{IsBackedBy}, View.{in_sight}};
 ghost use Rattle.revisions.specs.{Faults.{Gives}, FirstParents.{IsFirstParentChain}};
 ghost use Rattle.revisions.specs.{Ranges.{commit_named}, Resolution.{named_by}};
@@ -31,7 +31,7 @@ fn at_path<N: Naming>(
     path: &Path,
     tree: Name,
 ) -> Result<Name, Fault>
-    ensures { AreObjects N.digest_of objects.now
+    ensures { AreHeld N.digest_of objects.now
         → Gives result (at_path objects.now path.now tree) }
 {
     if !path.is_within_limits() {
@@ -58,12 +58,12 @@ fn after_suffix<N: Naming>(
     suffix: &Suffix,
     id: Name,
 ) -> Result<Name, Fault>
-    ensures found { AreObjects N.digest_of objects.now → IsFirstParentChain objects.now chain.old
+    ensures found { AreHeld N.digest_of objects.now → IsFirstParentChain objects.now chain.old
         → AreTagEnds objects.now tags.old
         → Gives result (after_suffix objects.now suffix.now id) }
-    ensures chain { AreObjects N.digest_of objects.now → IsFirstParentChain objects.now chain.old
+    ensures chain { AreHeld N.digest_of objects.now → IsFirstParentChain objects.now chain.old
         → IsFirstParentChain objects.now chain.new }
-    ensures tags { AreObjects N.digest_of objects.now → AreTagEnds objects.now tags.old
+    ensures tags { AreHeld N.digest_of objects.now → AreTagEnds objects.now tags.old
         → AreTagEnds objects.now tags.new }
 {
     match suffix {
@@ -94,12 +94,12 @@ fn after_suffixes<N: Naming>(
     suffixes: &[Suffix],
     id: Name,
 ) -> Result<Name, Fault>
-    ensures found { AreObjects N.digest_of objects.now → IsFirstParentChain objects.now chain.old
+    ensures found { AreHeld N.digest_of objects.now → IsFirstParentChain objects.now chain.old
         → AreTagEnds objects.now tags.old
         → Gives result (after_suffixes objects.now suffixes.now id) }
-    ensures chain { AreObjects N.digest_of objects.now → IsFirstParentChain objects.now chain.old
+    ensures chain { AreHeld N.digest_of objects.now → IsFirstParentChain objects.now chain.old
         → IsFirstParentChain objects.now chain.new }
-    ensures tags { AreObjects N.digest_of objects.now → AreTagEnds objects.now tags.old
+    ensures tags { AreHeld N.digest_of objects.now → AreTagEnds objects.now tags.old
         → AreTagEnds objects.now tags.new }
 {
     let mut at = id;
@@ -122,9 +122,9 @@ fn after_suffixes<N: Naming>(
 /// memory for ref names, to read the objects on the way, and to keep the commits of `~<n>` in the
 /// chain; `Fault::Memory` (90) where there is none.
 ///
-/// The answer is that of gitrevisions(7) among the objects of a good repository, with a chain of
-/// these objects; among others it is not specified. The next call over the same objects can use the
-/// chain that this one leaves.
+/// The answer is that of gitrevisions(7) where the objects are held (AreHeld of git_model) and the
+/// chain is one of theirs; among others it is not specified. The next call over the same objects
+/// can use the chain that this one leaves.
 #[tactic(auto, unfolding(crate::specs::Resolution::named_by))]
 pub fn resolve_expression<N: Naming>(
     alloc: Global,
@@ -133,9 +133,9 @@ pub fn resolve_expression<N: Naming>(
     chain: &mut FirstParentCache,
     expression: &Expression<'_>,
 ) -> Result<Name, Fault>
-    ensures found { AreObjects N.digest_of objects.now → IsFirstParentChain objects.now chain.old
+    ensures found { AreHeld N.digest_of objects.now → IsFirstParentChain objects.now chain.old
         → Gives result (named_by objects.now refs.now expression.now) }
-    ensures chain { AreObjects N.digest_of objects.now → IsFirstParentChain objects.now chain.old
+    ensures chain { AreHeld N.digest_of objects.now → IsFirstParentChain objects.now chain.old
         → IsFirstParentChain objects.now chain.new }
 {
     let mut tags = TagCache::new(alloc);
@@ -153,9 +153,9 @@ pub fn resolve_with_tags<N: Naming>(
     chains: &mut ChainCache,
     expression: &Expression<'_>,
 ) -> Result<Name, Fault>
-    ensures found { AreObjects N.digest_of objects.now → AreChains objects.now chains.old
+    ensures found { AreHeld N.digest_of objects.now → AreChains objects.now chains.old
         → Gives result (named_by objects.now refs.now expression.now) }
-    ensures chains { AreObjects N.digest_of objects.now → AreChains objects.now chains.old
+    ensures chains { AreHeld N.digest_of objects.now → AreChains objects.now chains.old
         → AreChains objects.now chains.new }
 {
     let id = base_named(alloc, objects, refs, expression.base())?;
@@ -180,9 +180,9 @@ pub fn resolve_commit<N: Naming>(
     chain: &mut FirstParentCache,
     expression: &Expression<'_>,
 ) -> Result<Name, Fault>
-    ensures found { AreObjects N.digest_of objects.now → IsFirstParentChain objects.now chain.old
+    ensures found { AreHeld N.digest_of objects.now → IsFirstParentChain objects.now chain.old
         → Gives result (commit_named objects.now refs.now expression.now) }
-    ensures chain { AreObjects N.digest_of objects.now → IsFirstParentChain objects.now chain.old
+    ensures chain { AreHeld N.digest_of objects.now → IsFirstParentChain objects.now chain.old
         → IsFirstParentChain objects.now chain.new }
 {
     let id = resolve_expression(alloc, objects, refs, chain, expression)?;
@@ -206,7 +206,7 @@ pub fn resolve<N: Naming>(
 ) -> Result<Name, Fault>
     requires { IsBackedBy N.digest_of pool.now table.now.entries }
     ensures { let os = objects pool.now (in_sight sight table.now) in
-        AreObjects N.digest_of os → Gives result (resolved os refs.now text.now) }
+        AreHeld N.digest_of os → Gives result (resolved os refs.now text.now) }
 {
     let expression = Expression::read(alloc, text)?;
     let objects = Objects::of(pool, table, sight);

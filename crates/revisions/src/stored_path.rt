@@ -1,8 +1,8 @@
 //! What stands at a path of a stored tree: gitrevisions(7), `<rev>:<path>`. Only the trees along
 //! the path are read.
 
-ghost use Rattle.std.specs.{Prelude.{◌≡◌, List, IfOk, find}, Option.{option_map}, Str.{bytes_eq}};
-ghost use Rattle.git_model.specs.{Repository.{Object}, GoodRepository.{AreObjects, IsValid}};
+ghost use Rattle.std.specs.{Prelude.{◌≡◌, IfOk, find}, Option.{option_map}, Str.{bytes_eq}};
+ghost use Rattle.git_model.specs.{HeldObjects.{AreHeld}, Readable.{IsReadable}};
 ghost use Rattle.git_model.specs.StoredPath.{entries_in, entries_of, entries_below, entry_below};
 ghost use Rattle.git_objects.specs.Parts.{entry_of};
 
@@ -19,7 +19,7 @@ fn entry_from<'a>(
     contents: &'a [u8],
     name: &[u8],
 ) -> Result<Option<TreeEntry<'a>>, Memory>
-    ensures { (os : List Object) → IsValid os kind contents.now
+    ensures { IsReadable kind contents.now
         → IfOk result (λ r. option_map entry_of r
         ≡ find (λ inner. bytes_eq inner.name name.now) (entries_in kind contents.now)) }
 {
@@ -36,7 +36,7 @@ fn entry_named<'a, N: Naming>(
     tree: &Name,
     name: &[u8],
 ) -> Result<Option<TreeEntry<'a>>, Memory>
-    ensures { AreObjects N.digest_of objects.now
+    ensures { AreHeld N.digest_of objects.now
         → IfOk result (λ r. option_map entry_of r
         ≡ find (λ inner. bytes_eq inner.name name.now) (entries_of objects.now tree.now)) }
 {
@@ -53,7 +53,7 @@ fn inner_entry<'a, N: Naming>(
     entry: &TreeEntry<'a>,
     name: &[u8],
 ) -> Result<Option<TreeEntry<'a>>, Memory>
-    ensures { AreObjects N.digest_of objects.now
+    ensures { AreHeld N.digest_of objects.now
         → IfOk result (λ r. option_map entry_of r
         ≡ find (λ inner. bytes_eq inner.name name.now)
         (entries_below objects.now entry.now.mode entry.now.id)) }
@@ -67,15 +67,15 @@ fn inner_entry<'a, N: Naming>(
 /// What is at a path below an entry: the entry itself at the empty path; `None` where nothing is
 /// there.
 ///
-/// `Memory` (90) where there is no room to read a tree on the way. The objects are those of a good
-/// repository; among others the answer is not specified.
+/// `Memory` (90) where there is no room to read a tree on the way. The objects are held; among
+/// others the answer is not specified.
 pub fn entry_below<'a, N: Naming>(
     alloc: Global,
     objects: &Objects<'a, N>,
     path: &Path,
     entry: &TreeEntry<'a>,
 ) -> Result<Option<TreeEntry<'a>>, Memory>
-    ensures { AreObjects N.digest_of objects.now
+    ensures { AreHeld N.digest_of objects.now
         → IfOk result (λ r. option_map entry_of r
         ≡ entry_below objects.now path.now (entry_of entry.now)) }
 {

@@ -1,7 +1,7 @@
 //! Ways along tags: gitrevisions(7), `<rev>^{}`. The end of a long way is kept for the next one.
 
 ghost use Rattle.std.specs.{Prelude.{◌≡◌, [], List, ℕ, IfOk, IfSome}, Map.{lookup}, Str.{bytes_eq}};
-ghost use Rattle.git_model.specs.{Repository.{Object}, GoodRepository.{AreObjects}};
+ghost use Rattle.git_model.specs.{Repository.{Object}, HeldObjects.{AreHeld}};
 ghost use Rattle.revisions.specs.{Faults.{Gives}, Resolution.{peeled, peeled_untagged}};
 ghost use Rattle.revisions.specs.TagEnds.{AreTagEnds, EndsAt};
 
@@ -67,14 +67,14 @@ impl TagCache {
     }
 
     // The end of the way from an object, and how many tags were passed. There is none where the way
-    // breaks off: among good objects where it begins at none.
+    // breaks off: among held objects where it begins at none.
     fn walk<N: Naming>(
         &self,
         alloc: Global,
         objects: &Objects<'_, N>,
         id: Name,
     ) -> Result<(Option<Name>, usize), Memory>
-        ensures { AreObjects N.digest_of objects.now → AreTagEnds objects.now self.now
+        ensures { AreHeld N.digest_of objects.now → AreTagEnds objects.now self.now
             → IfOk result (λ found. IfSome found.0 (EndsAt objects.now id)) }
     {
         let mut at = id;
@@ -105,7 +105,7 @@ impl TagCache {
         passed: usize,
         end: Name,
     )
-        ensures { AreObjects N.digest_of objects.now → EndsAt objects.now id end
+        ensures { AreHeld N.digest_of objects.now → EndsAt objects.now id end
             → AreTagEnds objects.now self.old → AreTagEnds objects.now self.new }
     {
         let mut at = id;
@@ -127,9 +127,9 @@ impl TagCache {
         objects: &Objects<'_, N>,
         id: Name,
     ) -> Result<Option<Name>, Memory>
-        ensures found { AreObjects N.digest_of objects.now → AreTagEnds objects.now self.old
+        ensures found { AreHeld N.digest_of objects.now → AreTagEnds objects.now self.old
             → IfOk result (λ end. IfSome end (EndsAt objects.now id)) }
-        ensures tags { AreObjects N.digest_of objects.now → AreTagEnds objects.now self.old
+        ensures tags { AreHeld N.digest_of objects.now → AreTagEnds objects.now self.old
             → AreTagEnds objects.now self.new }
     {
         let (end, passed) = self.walk(alloc, objects, id)?;
@@ -182,9 +182,9 @@ pub fn peel_along<N: Naming>(
     wanted: Kind,
     id: Name,
 ) -> Result<Name, Fault>
-    ensures found { AreObjects N.digest_of objects.now → AreTagEnds objects.now tags.old
+    ensures found { AreHeld N.digest_of objects.now → AreTagEnds objects.now tags.old
         → Gives result (peeled objects.now wanted id) }
-    ensures tags { AreObjects N.digest_of objects.now → AreTagEnds objects.now tags.old
+    ensures tags { AreHeld N.digest_of objects.now → AreTagEnds objects.now tags.old
         → AreTagEnds objects.now tags.new }
 {
     match wanted {
@@ -205,9 +205,9 @@ pub fn peel_tags_along<N: Naming>(
     tags: &mut TagCache,
     id: Name,
 ) -> Result<Name, Fault>
-    ensures found { AreObjects N.digest_of objects.now → AreTagEnds objects.now tags.old
+    ensures found { AreHeld N.digest_of objects.now → AreTagEnds objects.now tags.old
         → Gives result (peeled_untagged objects.now id) }
-    ensures tags { AreObjects N.digest_of objects.now → AreTagEnds objects.now tags.old
+    ensures tags { AreHeld N.digest_of objects.now → AreTagEnds objects.now tags.old
         → AreTagEnds objects.now tags.new }
 {
     match tags.end_of(alloc, objects, id)? {

@@ -7,7 +7,7 @@ use Rattle.git_model.specs.declared.kind.Kind.TheVariants as kind
 use Rattle.git_model.specs.Peeling.{at_once, later, is_no_tag, is_there_untagged, next_from, next_to}
 use Rattle.git_model.specs.References.{parents_in}
 use Rattle.git_model.specs.Repository.{Object, object_named}
-use Rattle.git_model.proofs.Growing.{longer, prefix_is}
+use Rattle.git_model.proofs.Growing.{longer, held_prefix_is}
 use Rattle.git_model.proofs.Places.{stands_at}
 use Rattle.content_pool.specs.Pool.{Cells}
 use Rattle.tenant_tables.specs.Objects.{objects}
@@ -84,8 +84,8 @@ ends_longer os more tags ends tag end kept = way_longer os more tag end (ends ta
 module _ (digest : List ℕ → List ℕ) where
   chain_longer : (os more : List Object) (chain : ChainCache) → ChainStands digest os chain
       → ChainStands digest (os ++ more) chain
-  chain_longer os more chain stands good =
-      let are = stands (prefix_is digest os more good) in
+  chain_longer os more chain stands held =
+      let are = stands (held_prefix_is digest os more held) in
       record {
         commits = commits_longer os more chain.first_parents are.commits;
         tags = ends_longer os more chain.tags are.tags;

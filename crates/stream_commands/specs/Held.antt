@@ -2,7 +2,7 @@
 -- what is kept of walks along first parents and along tags.
 use Rattle.std.specs.Prelude.{ℕ, List}
 use Rattle.git_model.specs.Repository.{Object}
-use Rattle.git_model.specs.GoodRepository.{AreObjects}
+use Rattle.git_model.specs.HeldObjects.{AreHeld}
 use Rattle.content_pool.specs.Pool.{Cells}
 use Rattle.tenant_tables.specs.Objects.{objects}
 use Rattle.tenant_tables.specs.View.{View}
@@ -22,7 +22,7 @@ HoldsOpen os _ = Unit {0}
 -- Among good objects a chain of commits is one of first parents, and tags lead to what is kept as
 -- their ends.
 abbrev pub ChainStands : (List ℕ → List ℕ) → List Object → ChainCache → Type 0
-ChainStands digest os chain = AreObjects digest os → AreChains os chain
+ChainStands digest os chain = AreHeld digest os → AreChains os chain
 
 -- All files are branches among the objects: each tree that they name is one of them. The chain stands
 -- among them too.

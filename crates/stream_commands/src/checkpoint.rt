@@ -1,7 +1,7 @@
 //! Checkpoints: git-fast-import(1), "checkpoint"; and "fast-forward" of gitglossary(7).
 
 ghost use Rattle.std.specs.Prelude.{◌≡◌, ◌++◌, ℕ, IfOk, IfErr, OnOk, OnErr};
-ghost use Rattle.git_model.specs.GoodRepository.{AreObjects};
+ghost use Rattle.git_model.specs.HeldObjects.{AreHeld};
 ghost use Rattle.tenant_refs.specs.Changes.{with_changes};
 ghost use Rattle.tenant_tables.specs.{Objects.{objects}, IsBackedBy.{IsBackedBy}};
 ghost use Rattle.stream_parts.specs.Checkpoints.{by_tags};
@@ -31,7 +31,7 @@ fn moves<N: Naming>(
     ref_name: &RefName,
     tip: &Name,
 ) -> Result<bool, Fault>
-    ensures judged { (committed : ℕ) → AreObjects N.digest_of ancestry.old
+    ensures judged { (committed : ℕ) → AreHeld N.digest_of ancestry.old
         → IfOk result (λ yes. yes ≡ moves
         (workspace_over (state_shown state.now) ancestry.old committed refs.now) ref_name.now
         tip.now) }
@@ -52,7 +52,7 @@ fn add_branch<N: Naming>(
     branch: (&RefName, &Tip),
     saving: &mut Saving,
 ) -> Result<(), Fault>
-    ensures saved { (committed : ℕ) → AreObjects N.digest_of ancestry.old → OnOk result
+    ensures saved { (committed : ℕ) → AreHeld N.digest_of ancestry.old → OnOk result
         (let workspace = workspace_over (state_shown state.now) ancestry.old committed refs.now in
         (with_changes refs.now saving.new.changes.items ≡ saved_by workspace
         (with_changes refs.now saving.old.changes.items) branch.entry.0.now branch.entry.1.now)
@@ -81,7 +81,7 @@ fn add_branches<N: Naming>(
     state: &StreamState,
     saving: &mut Saving,
 ) -> Result<(), Fault>
-    ensures saved { (committed : ℕ) → AreObjects N.digest_of ancestry.old → OnOk result
+    ensures saved { (committed : ℕ) → AreHeld N.digest_of ancestry.old → OnOk result
         (let workspace = workspace_over (state_shown state.now) ancestry.old committed refs.now in
         (with_changes refs.now saving.new.changes.items ≡ by_branches workspace
         (with_changes refs.now saving.old.changes.items) workspace.stream.branches)
@@ -102,7 +102,7 @@ fn saving_of<N: Naming>(
     refs: &Refs,
     state: &StreamState,
 ) -> Result<Saving, Fault>
-    ensures saved { (committed : ℕ) → AreObjects N.digest_of objects.entry → IfOk result (λ saving.
+    ensures saved { (committed : ℕ) → AreHeld N.digest_of objects.entry → IfOk result (λ saving.
         let workspace = workspace_over (state_shown state.now) objects.entry committed refs.now in
         (with_changes refs.now saving.changes.items ≡ by_tags
         (by_branches workspace workspace.refs workspace.stream.branches) workspace.stream.tags)
@@ -133,7 +133,7 @@ pub fn save<N: Naming>(
 ) -> Result<(), Fault>
     requires { IsBackedBy N.digest_of pool.now table.old.entries }
     ensures entries { table.new.entries ≡ table.old.entries }
-    ensures saved { AreObjects N.digest_of (objects pool.now table.old.entries) → CarriesOut
+    ensures saved { AreHeld N.digest_of (objects pool.now table.old.entries) → CarriesOut
         (checkpoint (workspace_in (state_shown state.old) pool.now table.old refs.old))
         (workspace_in (state_shown state.new) pool.now table.new refs.new)
         out.old.items out.new.items result }

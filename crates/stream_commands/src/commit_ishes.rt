@@ -4,7 +4,7 @@
 //! as last saved. Nothing here changes them. The state keeps the commits of a walk for the next one.
 
 ghost use Rattle.std.specs.Prelude.{◌≡◌, List, ℕ};
-ghost use Rattle.git_model.specs.{GoodRepository.{AreObjects}, Repository.{Object}};
+ghost use Rattle.git_model.specs.{HeldObjects.{AreHeld}, Repository.{Object}};
 ghost use Rattle.stream_grammar.specs.{Names.{Expression}, Shown.{commit_shown}};
 ghost use Rattle.stream_parts.specs.Faults.{Gives};
 ghost use Rattle.stream_commands.specs.CommitIshes.{commit_in, is_branch, named_in, start_in};
@@ -28,7 +28,7 @@ fn words_named<N: Naming>(
     words: &[u8],
 ) -> Result<Name, Fault>
     requires chain { ChainStands N.digest_of objects.now state.old.chain }
-    ensures named { (committed : ℕ) → AreObjects N.digest_of objects.now → Gives result
+    ensures named { (committed : ℕ) → AreHeld N.digest_of objects.now → Gives result
         (named_in (workspace_over (state_shown state.old) objects.now committed refs.now)
         (Expression words.now)) }
     ensures same { state_shown state.new
@@ -57,7 +57,7 @@ pub fn named<N: Naming>(
     commit: &CommitIsh<'_>,
 ) -> Result<Name, Fault>
     requires chain { ChainStands N.digest_of objects.now state.old.chain }
-    ensures named { (committed : ℕ) → AreObjects N.digest_of objects.now → Gives result
+    ensures named { (committed : ℕ) → AreHeld N.digest_of objects.now → Gives result
         (named_in (workspace_over (state_shown state.old) objects.now committed refs.now)
         (commit_shown commit.now)) }
     ensures same { state_shown state.new
@@ -81,7 +81,7 @@ pub fn commit_named<N: Naming>(
     commit: &CommitIsh<'_>,
 ) -> Result<Name, Fault>
     requires chain { ChainStands N.digest_of objects.now state.old.chain }
-    ensures named { (committed : ℕ) → AreObjects N.digest_of objects.now → Gives result
+    ensures named { (committed : ℕ) → AreHeld N.digest_of objects.now → Gives result
         (commit_in (workspace_over (state_shown state.old) objects.now committed refs.now)
         (commit_shown commit.now)) }
     ensures same { state_shown state.new
@@ -116,7 +116,7 @@ pub fn start_of<N: Naming>(
     from: &CommitIsh<'_>,
 ) -> Result<Name, Fault>
     requires chain { ChainStands N.digest_of objects.now state.old.chain }
-    ensures started { (committed : ℕ) → AreObjects N.digest_of objects.now → Gives result
+    ensures started { (committed : ℕ) → AreHeld N.digest_of objects.now → Gives result
         (start_in (workspace_over (state_shown state.old) objects.now committed refs.now) ref_name.now
         (commit_shown from.now)) }
     ensures same { state_shown state.new

@@ -2,7 +2,7 @@
 
 ghost use Rattle.std.specs.Prelude.{◌≡◌, List, ℕ, OnErr};
 ghost use Rattle.content_pool.specs.Pool.{Cells};
-ghost use Rattle.git_model.specs.GoodRepository.{AreObjects};
+ghost use Rattle.git_model.specs.HeldObjects.{AreHeld};
 ghost use Rattle.tenant_tables.specs.{Objects.{objects}, IsBackedBy.{IsBackedBy}, View.{View}};
 ghost use Rattle.stream_commands.specs.Controls.{controlled, feature_set, head_set};
 ghost use Rattle.stream_commands.specs.Held.{KeepsBranchFiles};
@@ -58,7 +58,7 @@ pub fn carry_out_control<N: Naming>(
 ) -> Result<(), Fault>
     requires { IsBackedBy N.digest_of pool.now table.old.entries }
     ensures entries { table.new.entries ≡ table.old.entries }
-    ensures done { AreObjects N.digest_of (objects pool.now table.old.entries) → CarriesOut
+    ensures done { AreHeld N.digest_of (objects pool.now table.old.entries) → CarriesOut
         (controlled command.now
         (workspace_in (state_shown state.old) pool.now table.old refs.old))
         (workspace_in (state_shown state.new) pool.now table.new refs.new)

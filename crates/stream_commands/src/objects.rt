@@ -1,7 +1,7 @@
 //! Blobs and tags: git-fast-import(1), "blob" and "tag".
 
 ghost use Rattle.std.specs.Prelude.{OnErr, OnOk, List, ℕ};
-ghost use Rattle.git_model.specs.{GoodRepository.{AreObjects}, RefStore.{RefStore}};
+ghost use Rattle.git_model.specs.{HeldObjects.{AreHeld}, RefStore.{RefStore}};
 ghost use Rattle.content_pool.specs.Pool.{Cells, HasHoldsLeft};
 ghost use Rattle.tenant_tables.specs.{Objects.{objects}, View.{View}, IsBackedBy.{IsBackedBy}};
 ghost use Rattle.stream_grammar.specs.Acts.{Blob, BeginTag, TagTarget, Tagger};
@@ -126,7 +126,7 @@ pub fn carry_out_object<N: Naming>(
     requires room { HasHoldsLeft pool.old }
     requires held { FilesStand N.digest_of (state_shown state.old) pool.old table.old }
     ensures keeps { Keeps N.digest_of pool.old table.old pool.new table.new }
-    ensures done { (out : List ℕ) → AreObjects N.digest_of (objects pool.old table.old.entries)
+    ensures done { (out : List ℕ) → AreHeld N.digest_of (objects pool.old table.old.entries)
         → CarriesOut (object_stored N.digest_of (object_shown command.now)
         (workspace_in (state_shown state.old) pool.old table.old refs.now))
         (workspace_in (state_shown state.new) pool.new table.new refs.now) out out result }

@@ -1,7 +1,7 @@
 //! Resets and aliases: git-fast-import(1), "reset" and "alias".
 
 ghost use Rattle.std.specs.Prelude.{◌≡◌, List, ℕ, OnOk};
-ghost use Rattle.git_model.specs.{GoodRepository.{AreObjects}, Repository.{Object}};
+ghost use Rattle.git_model.specs.{HeldObjects.{AreHeld}, Repository.{Object}};
 ghost use Rattle.stream_grammar.specs.Acts.{Reset, ResetFrom, Alias};
 ghost use Rattle.stream_grammar.specs.Shown.{commit_shown, ref_command_shown};
 ghost use Rattle.stream_parts.specs.Faults.{Gives};
@@ -66,7 +66,7 @@ fn tip_from<N: Naming>(
     from: &CommitIsh<'_>,
 ) -> Result<Tip, Fault>
     requires chain { ChainStands N.digest_of objects.now state.old.chain }
-    ensures tip { (committed : ℕ) → AreObjects N.digest_of objects.now → Gives result
+    ensures tip { (committed : ℕ) → AreHeld N.digest_of objects.now → Gives result
         (tip_from (workspace_over (state_shown state.old) objects.now committed refs.now) ref_name.now
         (commit_shown from.now)) }
     ensures same { state_shown state.new
@@ -89,7 +89,7 @@ fn reset_to<N: Naming>(
     from: &CommitIsh<'_>,
 ) -> Result<(), Fault>
     requires held { HoldsFiles N.digest_of objects.now (state_shown state.old) }
-    ensures done { (out : List ℕ) (committed : ℕ) → AreObjects N.digest_of objects.now
+    ensures done { (out : List ℕ) (committed : ℕ) → AreHeld N.digest_of objects.now
         → CarriesOut (ref_set (ResetFrom (commit_shown from.now))
         (workspace_over (state_shown state.old) objects.now committed refs.now))
         (workspace_over (state_shown state.new) objects.now committed refs.now) out out result }
@@ -114,7 +114,7 @@ fn alias<N: Naming>(
     commit: &CommitIsh<'_>,
 ) -> Result<(), Fault>
     requires held { HoldsFiles N.digest_of objects.now (state_shown state.old) }
-    ensures done { (out : List ℕ) (committed : ℕ) → AreObjects N.digest_of objects.now
+    ensures done { (out : List ℕ) (committed : ℕ) → AreHeld N.digest_of objects.now
         → CarriesOut (ref_set (Alias mark (commit_shown commit.now))
         (workspace_over (state_shown state.old) objects.now committed refs.now))
         (workspace_over (state_shown state.new) objects.now committed refs.now) out out result }
@@ -140,7 +140,7 @@ pub fn carry_out_ref<N: Naming>(
     command: &RefCommand<'_>,
 ) -> Result<(), Fault>
     requires held { HoldsFiles N.digest_of objects.now (state_shown state.old) }
-    ensures done { (out : List ℕ) (committed : ℕ) → AreObjects N.digest_of objects.now
+    ensures done { (out : List ℕ) (committed : ℕ) → AreHeld N.digest_of objects.now
         → CarriesOut (ref_set (ref_command_shown command.now)
         (workspace_over (state_shown state.old) objects.now committed refs.now))
         (workspace_over (state_shown state.new) objects.now committed refs.now) out out result }

@@ -1,7 +1,7 @@
 //! What is printed: git-fast-import(1), "get-mark", "cat-blob", "ls" and "progress".
 
 ghost use Rattle.std.specs.Prelude.{◌≡◌, OnErr, OnOk};
-ghost use Rattle.git_model.specs.{GoodRepository.{AreObjects}, RefStore.{RefStore}};
+ghost use Rattle.git_model.specs.{HeldObjects.{AreHeld}, RefStore.{RefStore}};
 ghost use Rattle.tenant_tables.specs.{Objects.{objects}, Room.{HasHoldsLeftBeside}};
 ghost use Rattle.tenant_tables.specs.IsBackedBy.{IsBackedBy};
 ghost use Rattle.stream_grammar.specs.{Acts.{LsInCommit}, Shown.{reply_shown}};
@@ -79,7 +79,7 @@ pub fn carry_out_reply<N: Naming>(
     requires room { HasHoldsLeftBeside pool.old table.old.entries }
     requires held { FilesStand N.digest_of (state_shown state.old) pool.old table.old }
     ensures keeps { Keeps N.digest_of pool.old table.old pool.new table.new }
-    ensures done { (refs : RefStore) → AreObjects N.digest_of (objects pool.old table.old.entries)
+    ensures done { (refs : RefStore) → AreHeld N.digest_of (objects pool.old table.old.entries)
         → CarriesOut (replied N.digest_of (reply_shown command.now)
         (workspace_in (state_shown state.old) pool.old table.old refs))
         (workspace_in (state_shown state.new) pool.new table.new refs)

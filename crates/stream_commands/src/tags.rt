@@ -1,7 +1,7 @@
 //! How a tag is stored: git-fast-import(1), "tag".
 
 ghost use Rattle.std.specs.{Prelude.{◌≡◌, ◌<◌, length, List, ℕ, OnOk, OnErr}, Vec.{vec_capacity}};
-ghost use Rattle.git_model.specs.GoodRepository.{AreObjects};
+ghost use Rattle.git_model.specs.HeldObjects.{AreHeld};
 ghost use Rattle.content_pool.specs.Pool.{HasHoldsLeft};
 ghost use Rattle.tenant_tables.specs.{Objects.{objects}, IsBackedBy.{IsBackedBy}};
 ghost use Rattle.stream_grammar.specs.Acts.{Tag};
@@ -32,7 +32,7 @@ fn tagged<N: Naming>(
     mark: &Option<Mark>,
 ) -> Result<(Name, Kind), Fault>
     requires chain { ChainStands N.digest_of objects.now state.old.chain }
-    ensures tagged { (committed : ℕ) → AreObjects N.digest_of objects.now → Gives result
+    ensures tagged { (committed : ℕ) → AreHeld N.digest_of objects.now → Gives result
         (tagged mark.now header.now
         (workspace_over (state_shown state.old) objects.now committed refs.now)) }
     ensures mark { OnOk result (0 < state.new.marks.spare) }
@@ -65,7 +65,7 @@ pub fn store_tag<N: Naming>(
     requires room { HasHoldsLeft pool.old }
     requires held { FilesStand N.digest_of (state_shown state.old) pool.old table.old }
     ensures keeps { Keeps N.digest_of pool.old table.old pool.new table.new }
-    ensures done { (out : List ℕ) → AreObjects N.digest_of (objects pool.old table.old.entries)
+    ensures done { (out : List ℕ) → AreHeld N.digest_of (objects pool.old table.old.entries)
         → CarriesOut (object_stored N.digest_of (Tag mark message.now)
         (workspace_in (state_shown state.old) pool.old table.old refs.now))
         (workspace_in (state_shown state.new) pool.new table.new refs.now) out out result }

@@ -3,7 +3,7 @@
 
 ghost use Rattle.std.specs.Prelude.{◌≡◌, ◌≢◌, ◌++◌, ◌∷◌, [], ◌≤◌, ◌<◌, length, IfOk, IfErr, OnOk};
 ghost use Rattle.std.specs.Prelude.{OnErr, MatchResult};
-ghost use Rattle.git_model.specs.GoodRepository.{AreObjects, refs_limit};
+ghost use Rattle.git_model.specs.{GoodRepository.{refs_limit}, HeldObjects.{AreHeld}};
 ghost use Rattle.git_model.specs.RefStore.{listed_refs, RefStore};
 ghost use Rattle.tenant_refs.specs.Changes.{with_changes};
 ghost use Rattle.stream_parts.specs.Checkpoints.{by_head, by_tags, is_fast_forward};
@@ -37,7 +37,7 @@ pub fn is_fast_forward<N: Naming>(
     old: Name,
     tip: &Name,
 ) -> Result<bool, Fault>
-    ensures judged { AreObjects N.digest_of ancestry.old
+    ensures judged { AreHeld N.digest_of ancestry.old
         → IfOk result (λ yes. yes ≡ is_fast_forward ancestry.old old tip.now) }
     ensures refused { IfErr result (λ fault. fault ≡ Fault.Memory) }
     ensures same { ancestry.new ≡ ancestry.old }

@@ -1,7 +1,7 @@
 //! What an expression names, and what it is peeled to: git-fast-import(1), "from".
 
 ghost use Rattle.std.specs.Prelude.{◌≡◌};
-ghost use Rattle.git_model.specs.{GoodRepository.{AreObjects}, Results.{or_fault}};
+ghost use Rattle.git_model.specs.{HeldObjects.{AreHeld}, Results.{or_fault}};
 ghost use Rattle.revisions.specs.{Resolution.{peeled, resolved}, TagEnds.{AreChains}};
 ghost use Rattle.revisions.specs.Faults.{Gives as Names};
 ghost use Rattle.stream_parts.specs.Faults.{resolved_or, resolving_fault, Gives};
@@ -48,7 +48,7 @@ pub fn peel_to<N: Naming>(
     wanted: Kind,
     id: Name,
 ) -> Result<Name, Fault>
-    ensures { AreObjects N.digest_of objects.now
+    ensures { AreHeld N.digest_of objects.now
         → Gives result (resolved_or (peeled objects.now wanted id)) }
 {
     passed_on(peel(alloc, objects, wanted, id))
@@ -63,9 +63,9 @@ pub fn peel_with_chain<N: Naming>(
     wanted: Kind,
     id: Name,
 ) -> Result<Name, Fault>
-    ensures found { AreObjects N.digest_of objects.now → AreChains objects.now chain.old
+    ensures found { AreHeld N.digest_of objects.now → AreChains objects.now chain.old
         → Gives result (resolved_or (peeled objects.now wanted id)) }
-    ensures chain { AreObjects N.digest_of objects.now → AreChains objects.now chain.old
+    ensures chain { AreHeld N.digest_of objects.now → AreChains objects.now chain.old
         → AreChains objects.now chain.new }
 {
     passed_on(peel_along(alloc, objects, &mut chain.tags, wanted, id))
@@ -79,9 +79,9 @@ fn resolve<N: Naming>(
     chain: &mut ChainCache,
     words: &[u8],
 ) -> Result<Name, revisions::Fault>
-    ensures found { AreObjects N.digest_of objects.now → AreChains objects.now chain.old
+    ensures found { AreHeld N.digest_of objects.now → AreChains objects.now chain.old
         → Names result (resolved objects.now refs.now words.now) }
-    ensures chain { AreObjects N.digest_of objects.now → AreChains objects.now chain.old
+    ensures chain { AreHeld N.digest_of objects.now → AreChains objects.now chain.old
         → AreChains objects.now chain.new }
 {
     let expression = Expression::read(alloc, words)?;
@@ -98,9 +98,9 @@ pub fn resolve_words<N: Naming>(
     chain: &mut ChainCache,
     words: &[u8],
 ) -> Result<Name, Fault>
-    ensures found { AreObjects N.digest_of objects.now → AreChains objects.now chain.old
+    ensures found { AreHeld N.digest_of objects.now → AreChains objects.now chain.old
         → Gives result (resolved_or (resolved objects.now refs.now words.now)) }
-    ensures chain { AreObjects N.digest_of objects.now → AreChains objects.now chain.old
+    ensures chain { AreHeld N.digest_of objects.now → AreChains objects.now chain.old
         → AreChains objects.now chain.new }
 {
     passed_on(resolve(alloc, objects, refs, chain, words))

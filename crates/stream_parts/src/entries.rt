@@ -1,7 +1,7 @@
 //! What is printed of a stored tree: git-fast-import(1), "ls".
 
 ghost use Rattle.std.specs.{Prelude.{◌≡◌, ◌++◌, codes, Ok, OnOk, OnErr}, Option.{option_map}};
-ghost use Rattle.git_model.specs.{GoodRepository.{AreObjects}, StoredPath.{entry_at_path}};
+ghost use Rattle.git_model.specs.{HeldObjects.{AreHeld}, StoredPath.{entry_at_path}};
 ghost use Rattle.git_objects.specs.Parts.{entry_of};
 ghost use Rattle.stream_parts.specs.{Faults.{Gives}, Printing.{Shows}};
 ghost use Rattle.stream_parts.specs.Showing.{entry_line, entry_shown, tree_in};
@@ -54,7 +54,7 @@ fn print_entry(
 
 // The stored tree that an object is peeled to. The object must be there.
 fn tree_of<N: Naming>(alloc: Global, objects: &Objects<'_, N>, id: Name) -> Result<Name, Fault>
-    ensures { AreObjects N.digest_of objects.now → Gives result (tree_in objects.now id) }
+    ensures { AreHeld N.digest_of objects.now → Gives result (tree_in objects.now id) }
 {
     match objects.get(&id) {
         Some(_) => peel_to(alloc, objects, Kind::Tree, id),
@@ -70,7 +70,7 @@ fn print_below<N: Naming>(
     path: &Path,
     out: &mut Vec<u8>,
 ) -> Result<(), Fault>
-    ensures shows { AreObjects N.digest_of objects.now
+    ensures shows { AreHeld N.digest_of objects.now
         → Shows (Ok (entry_line path.now (entry_at_path objects.now tree path.now)))
         out.old.items out.new.items result }
     ensures same { OnErr result (out.new.items ≡ out.old.items) }
@@ -101,7 +101,7 @@ pub fn print_stored<N: Naming>(
     path: &Path,
     out: &mut Vec<u8>,
 ) -> Result<(), Fault>
-    ensures shows { AreObjects N.digest_of objects.now
+    ensures shows { AreHeld N.digest_of objects.now
         → Shows (entry_shown objects.now marks.now.entries root path.now)
         out.old.items out.new.items result }
     ensures same { OnErr result (out.new.items ≡ out.old.items) }

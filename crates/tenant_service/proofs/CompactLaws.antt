@@ -10,6 +10,7 @@ use Rattle.std.specs.Ordering.{eq_by_cmp, nat_cmp}
 use Rattle.std.specs.Cmp.Lexicographic.{slice_cmp}
 use Rattle.std.proofs.lemmas.Bool.{or_cases, or_left, or_right}
 use Rattle.std.proofs.lemmas.List.Elements.{All-from_recursion, All-map, All-nil}
+use Rattle.git_model.proofs.Readables.{objects_are}
 use Rattle.git_model.specs.Content.{Content, no_content}
 use Rattle.git_model.specs.GoodRepository.{AreObjects, AreRefs, MayHold}
 use Rattle.git_model.specs.Reach.{Reaches, is_reachable, is_referred_to}
@@ -180,10 +181,10 @@ module _ (digest : List ℕ → List ℕ) (repository : Repository)
   still-reachable : (from id : List ℕ) → set from ≡ true → is_reachable os leads from id ≡ true
       → is_reachable left leads-left from id ≡ true
   still-reachable from id on h =
-      (least leads-left (λ x. place_of x left) (references_fall digest left good-left) (length left) from id
+      (least leads-left (λ x. place_of x left) (references_fall digest left (objects_are digest left good-left)) (length left) from id
       (place_within from left)).1
       (reaches-left from id on
-      ((least leads (λ x. place_of x os) (references_fall digest os sound.objects) (length os) from id
+      ((least leads (λ x. place_of x os) (references_fall digest os (objects_are digest os sound.objects)) (length os) from id
       (place_within from os)).0 h))
 
   still-reached : (id : List ℕ) → set id ≡ true → is_referred_to (compacted repository) id ≡ true

@@ -1,8 +1,9 @@
 -- Questions for a pack of one tenant: the objects that they are asked of.
 use Rattle.std.proofs.Common.{◌≡◌, ℕ, zero, suc, true, List, [], take, Result, refl, sym, ap, subst, ◌∙◌}
 use Rattle.std.specs.Global.{Vec}
+use Rattle.git_model.proofs.Readables.{objects_are}
 use Rattle.byte_devices.specs.Device.{Device}
-use Rattle.git_model.specs.GoodRepository.{AreObjects}
+use Rattle.git_model.specs.HeldObjects.{AreHeld}
 use Rattle.git_model.specs.Repository.{Object}
 use Rattle.content_pool.specs.Pool.{Cells}
 use Rattle.tenant_refs.specs.TenantName.{is_tenant_name}
@@ -38,21 +39,23 @@ objects-unseen tenant all pool table os none unseen is =
     nothing zero = refl
     nothing (suc n) = refl
 
-good : (digest : List ℕ → List ℕ) (tenant : List ℕ) (all : TenantStates) (os : List Object) → IsSoundTenantState digest (held_of tenant all)
-    → os ≡ last_objects tenant all → AreObjects digest os
-good digest tenant all os sound is = subst (λ (l : List Object). AreObjects digest l) (sym is) (last-sound digest (held_of tenant all) sound).objects
+held : (digest : List ℕ → List ℕ) (tenant : List ℕ) (all : TenantStates) (os : List Object) → IsSoundTenantState digest (held_of tenant all)
+    → os ≡ last_objects tenant all → AreHeld digest os
+held digest tenant all os sound is =
+    subst (λ (l : List Object). AreHeld digest l) (sym is)
+    (objects_are digest (last_objects tenant all) (last-sound digest (held_of tenant all) sound).objects)
 
 -- An answer for the objects of a tenant with a good name is the answer for the tenant.
 pub told-missing : (digest : List ℕ → List ℕ) (tenant : List ℕ) (all : TenantStates) (os : List Object) (wants haves : List (List ℕ))
     (result : Result (Vec MissingObject) PackFault) → IsSoundTenantState digest (held_of tenant all) → is_tenant_name tenant ≡ true
-    → os ≡ last_objects tenant all → (AreObjects digest os → TellsMissing (missing_asked os wants haves) result)
+    → os ≡ last_objects tenant all → (AreHeld digest os → TellsMissing (missing_asked os wants haves) result)
     → TellsMissing (missing_for tenant all wants haves) result
 told-missing digest tenant all os wants haves result sound name is told =
-    rw name (subst (λ (l : List Object). TellsMissing (missing_asked l wants haves) result) is (told (good digest tenant all os sound is)))
+    rw name (subst (λ (l : List Object). TellsMissing (missing_asked l wants haves) result) is (told (held digest tenant all os sound is)))
 
 pub told-pack : (digest : List ℕ → List ℕ) (tenant : List ℕ) (all : TenantStates) (os : List Object) (wants haves : List (List ℕ)) (old new : Device)
     (result : Result Unit PackFault) → IsSoundTenantState digest (held_of tenant all) → is_tenant_name tenant ≡ true
-    → os ≡ last_objects tenant all → (AreObjects digest os → WritesPack digest (pack_asked os wants haves) old result new)
+    → os ≡ last_objects tenant all → (AreHeld digest os → WritesPack digest (pack_asked os wants haves) old result new)
     → WritesPack digest (pack_for tenant all wants haves) old result new
 told-pack digest tenant all os wants haves old new result sound name is told =
-    rw name (subst (λ (l : List Object). WritesPack digest (pack_asked l wants haves) old result new) is (told (good digest tenant all os sound is)))
+    rw name (subst (λ (l : List Object). WritesPack digest (pack_asked l wants haves) old result new) is (told (held digest tenant all os sound is)))

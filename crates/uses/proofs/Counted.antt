@@ -1,7 +1,8 @@
 -- What a service lends of a tenant, as the revisions read it.
 use Rattle.std.proofs.Common.{◌≡◌, ℕ, List, Ok, take, sym, ap, subst, ◌∙◌}
+use Rattle.git_model.proofs.Readables.{objects_are}
 use Rattle.content_pool.specs.Pool.{Cells}
-use Rattle.git_model.specs.GoodRepository.{AreObjects}
+use Rattle.git_model.specs.HeldObjects.{AreHeld}
 use Rattle.git_model.specs.RefStore.{RefStore}
 use Rattle.revisions.specs.Logs.{range_log}
 use Rattle.import_session.specs.Sound.{IsSoundRepository}
@@ -27,13 +28,13 @@ last-sound digest (Busy opened (Refused code repository)) sound = sound.1
 pub logged : (digest : List ℕ → List ℕ) (held : TenantState) (pool : Cells) (table : View) (refs : RefStore)
     (text : List ℕ) (ids : List (List ℕ))
     → Shows held pool table refs → IsSoundTenantState digest held
-    → (AreObjects digest (objects pool (take table.committed table.entries))
+    → (AreHeld digest (objects pool (take table.committed table.entries))
     → range_log (objects pool (take table.committed table.entries)) refs text ≡ Ok ids)
     → range_log (last_held held).objects (last_held held).refs text ≡ Ok ids
 logged digest held pool table refs text ids shows sound log =
     ap (λ os. range_log os (last_held held).refs text) (sym same)
     ∙ ap (λ (r : RefStore). range_log (objects pool (take table.committed table.entries)) r text) (sym shows.saved)
-    ∙ log (subst (AreObjects digest) (sym same) (last-sound digest held sound).objects)
+    ∙ log (subst (AreHeld digest) (sym same) (objects_are _ _ (last-sound digest held sound).objects))
   where
     same : objects pool (take table.committed table.entries) ≡ (last_held held).objects
     same = objects-take pool table.committed table.entries ∙ shows.committed

@@ -125,6 +125,13 @@ fn reads_when_lent(alloc: Global, sizes: Sizes) -> u64 {
     reader.calls()
 }
 
+// How many it takes if the file is judged too.
+fn reads_when_judged(alloc: Global, sizes: Sizes) -> u64 {
+    let mut reader = reader_of(VERSION_1, sizes);
+    let _answer = read_judged_by::<TailNaming, Lender, Lent>(alloc, &TailNaming, &mut reader);
+    reader.calls()
+}
+
 #[test]
 fn judges_what_is_lent_as_what_is_copied(rt: HostRuntime) {
     assert!(rt; are_judged_alike(rt.alloc(), VERSION_1));
@@ -143,4 +150,5 @@ fn reads_the_same_objects_however_they_are_lent(rt: HostRuntime) {
 fn calls_no_read_for_contents_that_are_lent(rt: HostRuntime) {
     assert!(rt; reads_when_lent(rt.alloc(), NONE) == READS);
     assert!(rt; reads_when_lent(rt.alloc(), ALL) == READS - 1);
+    assert!(rt; reads_when_judged(rt.alloc(), ALL) == READS - 1);
 }

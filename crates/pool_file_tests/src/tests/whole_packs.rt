@@ -92,8 +92,8 @@ fn is_front_written(alloc: Global, nth: usize) -> bool {
         && written.as_slice() == PACK.split_at(nth.min(PACK.len())).0
 }
 
-// The length of the pack of blobs of so many bytes 7, and its SHA-1.
-fn pack_of_sevens(alloc: Global, sizes: &[usize]) -> Result<(usize, [u8; 40]), AllocError> {
+// The length of the pack of blobs of so many bytes 7, its SHA-1, and how many calls wrote it.
+fn pack_of_sevens(alloc: Global, sizes: &[usize]) -> Result<(usize, [u8; 40], u64), AllocError> {
     let sevens = Vec::from_elem(alloc, 7, 200_000)?;
     let mut objects = Vec::new(alloc);
     for size in sizes {
@@ -107,9 +107,10 @@ fn pack_of_sevens(alloc: Global, sizes: &[usize]) -> Result<(usize, [u8; 40]), A
         &Listed { objects: &objects },
         &mut writer,
     );
+    let calls = writer.calls();
     let pack = writer.into_inner();
     let digest = Name::from_bytes(Sha1Naming.digest(&pack)).to_hex();
-    Ok((pack.len(), digest))
+    Ok((pack.len(), digest, calls))
 }
 
 #[test]
@@ -125,12 +126,13 @@ fn leaves_a_front_of_a_pack_where_a_writer_fails(rt: HostRuntime) {
     }
 }
 
-// Python made the digest, and `git index-pack --strict` accepted the pack.
+// Python made the digest, and `git index-pack --strict` accepted the pack. No call writes 128 KiB or
+// more.
 #[test]
 fn writes_large_contents_in_blocks(rt: HostRuntime) {
     let sizes = [
         0, 65_535, 65_536, 131_054, 131_055, 131_070, 131_071, 131_072, 1, 200_000,
     ];
     let digits = *b"157cd094610e52eb4b564a9b68ff9d2c1e9718f2";
-    assert!(rt; pack_of_sevens(rt.alloc(), &sizes) == Ok((986_617, digits)));
+    assert!(rt; pack_of_sevens(rt.alloc(), &sizes) == Ok((986_617, digits, 14)));
 }

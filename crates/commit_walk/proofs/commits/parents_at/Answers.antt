@@ -18,4 +18,4 @@ returns g c good =
     same_true the_type (search rules) _ _ (not_false _ c.if-ne.ensures) in
     let told = commit_told _ c.args.objects.now good c.args.place c.requires _ _
     (rw is at c.in-Some.ensures) in
-    rw told.parents (c.in_ok-parents.ensures told.commit told.writable told.contents)
+    rw told.parents (c.in_ok-parents.ensures told.readable)

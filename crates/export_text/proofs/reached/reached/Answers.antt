@@ -17,7 +17,7 @@ returns-clause-size g c =
     ∙ same ∙ ap length blank ∙ length-replicate c.len.result false ∙ c.len.ensures
 
 pub returns-clause-reached : goal.returns-clause-reached
-returns-clause-reached g c good =
+returns-clause-reached g c held =
     lent c.in_ok-flags.flags.len c.walk.new.flags c.in_ok-flags.flags.items c.in_ok-flags.flags.ok.0
     (c.walk.auto.flags ∙ ap length c.deref_mut.ensures.value)
-    ∙ c.in_ok-walk.ensures good
+    ∙ c.in_ok-walk.ensures held

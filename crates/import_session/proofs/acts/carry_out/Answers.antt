@@ -1,5 +1,6 @@
 use Rattle.std.proofs.Common.{refl}
 use Rattle.std.proofs.lemmas.Result.{on_err_weaker}
+use Rattle.git_model.proofs.Readables.{objects_are}
 use Rattle.tenant_tables.specs.Objects.{objects}
 use Rattle.tenant_tables.proofs.RoomLemmas.{has_room}
 use Rattle.import_session.specs.Meaning.{after_act}
@@ -15,7 +16,7 @@ carry_out_object-requires-clause-room g c =
 pub returns-in-Object-clause-done : goal.returns-in-Object-clause-done
 unfolding after_act
 returns-in-Object-clause-done g c sound =
-    rw c.in-Object.is (c.carry_out_object.ensures.done c.args.out.now.items sound.objects)
+    rw c.in-Object.is (c.carry_out_object.ensures.done c.args.out.now.items (objects_are _ _ sound.objects))
 
 pub returns-in-Object-clause-committed : goal.returns-in-Object-clause-committed
 returns-in-Object-clause-committed g c =
@@ -39,12 +40,12 @@ returns-in-Change-clause-committed g c =
 pub returns-in-Ref-clause-done : goal.returns-in-Ref-clause-done
 unfolding after_act
 returns-in-Ref-clause-done g c sound =
-    rw c.in-Ref.is ((rw c.of.ensures at c.carry_out_ref.ensures.done) c.args.out.now.items c.args.table.now.committed sound.objects)
+    rw c.in-Ref.is ((rw c.of.ensures at c.carry_out_ref.ensures.done) c.args.out.now.items c.args.table.now.committed (objects_are _ _ sound.objects))
 
 pub returns-in-Reply-clause-done : goal.returns-in-Reply-clause-done
 unfolding after_act
 returns-in-Reply-clause-done g c sound =
-    rw c.in-Reply.is (c.carry_out_reply.ensures.done c.args.refs.now sound.objects)
+    rw c.in-Reply.is (c.carry_out_reply.ensures.done c.args.refs.now (objects_are _ _ sound.objects))
 
 pub returns-in-Reply-clause-committed : goal.returns-in-Reply-clause-committed
 returns-in-Reply-clause-committed g c =
@@ -53,7 +54,7 @@ returns-in-Reply-clause-committed g c =
 pub returns-in-Control-clause-done : goal.returns-in-Control-clause-done
 unfolding after_act
 returns-in-Control-clause-done g c sound =
-    rw c.in-Control.is (c.carry_out_control.ensures.done sound.objects)
+    rw c.in-Control.is (c.carry_out_control.ensures.done (objects_are _ _ sound.objects))
 
 pub returns-in-Control-clause-committed : goal.returns-in-Control-clause-committed
 returns-in-Control-clause-committed g c =

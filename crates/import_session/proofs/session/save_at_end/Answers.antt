@@ -1,5 +1,6 @@
 use Rattle.std.proofs.Common.{◌≡◌, refl, Ok}
 use Rattle.std.proofs.lemmas.Result.{err_from_is_err_and, on_err_weaker}
+use Rattle.git_model.proofs.Readables.{objects_are}
 use Rattle.stream_commands.specs.Checkpoints.{checkpoint}
 use Rattle.import_session.specs.Commits.{closed_where}
 use Rattle.stream_commands.specs.State.{state_shown, workspace_in}
@@ -40,7 +41,7 @@ returns-clause-saved g c sound =
     c.in_ok-close_where.ensures.done c.args.refs.now in
     let kept = ended_sound digest g.met.N.Naming.answers_names c.args.ends now left sound ended in
     first_then (closed_where digest c.args.ends now) left checkpoint _ c.args.out.now.items _
-    c.save.result ended (c.save.ensures.saved kept.objects)
+    c.save.result ended (c.save.ensures.saved (objects_are _ _ kept.objects))
 
 pub returns-clause-last : goal.returns-clause-last
 returns-clause-last g c =

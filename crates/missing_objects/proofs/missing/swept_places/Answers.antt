@@ -12,7 +12,7 @@ mark_objects-requires g c = record {
 }
 
 pub returns : goal.returns
-returns g c = λ good.
+returns g c = λ held.
     let os = c.args.objects.now in
     let first = first-of os c.len-len.result c.in_ok-marks.marks c.mark_objects.new.marks c.mark_objects-2.new.marks
     c.args.wants.now c.args.haves.now c.in_ok-marks.ensures c.len-len.ensures c.mark_objects.ensures.marked c.mark_objects-2.ensures.marked in
@@ -20,6 +20,6 @@ returns g c = λ good.
     (λ (places : Vec ℕ Global). places.items ≡ open_places c.sweep.new.marks c.len-len.result)
     (λ (places : Vec ℕ Global). places.items ≡ missing_places os c.args.wants.now c.args.haves.now)
     (λ places is. is ∙ ap (open_places c.sweep.new.marks) c.len-len.ensures
-    ∙ all-listed g.N.Naming.digest_of os good c.args.wants.now c.args.haves.now c.sweep.new.marks
-    (c.in_ok-low.ensures.settled good c.args.wants.now c.args.haves.now first))
-    (c.open_places.ensures (c.in_ok-low.ensures.none good c.args.wants.now c.args.haves.now first))
+    ∙ all-listed g.N.Naming.digest_of os held c.args.wants.now c.args.haves.now c.sweep.new.marks
+    (c.in_ok-low.ensures.settled held c.args.wants.now c.args.haves.now first))
+    (c.open_places.ensures (c.in_ok-low.ensures.none held c.args.wants.now c.args.haves.now first))

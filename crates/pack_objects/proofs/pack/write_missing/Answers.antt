@@ -7,13 +7,13 @@ use Rattle.pack_objects.proofs.MissingTold.{missing-contents}
 use Rattle.pack_objects.proofs.pack.write_missing.Goals as goal
 
 pub returns-in-Ok : goal.returns-in-Ok
-returns-in-Ok g c = λ good.
-    let same = missing-contents g.N.Naming.digest_of c.args.objects.now good c.args.wants.now c.args.haves.now c.deref.result.now
-    (c.deref.ensures.value ∙ c.in_ok-places.ensures.missing good) in
+returns-in-Ok g c = λ held.
+    let same = missing-contents g.N.Naming.digest_of c.args.objects.now held c.args.wants.now c.args.haves.now c.deref.result.now
+    (c.deref.ensures.value ∙ c.in_ok-places.ensures.missing held) in
     rw c.in_ok-places.ensures.known (rw same at c.in-Ok.ensures)
 
 pub returns : goal.returns
-returns g c = λ good.
-    let same = missing-contents g.N.Naming.digest_of c.args.objects.now good c.args.wants.now c.args.haves.now c.deref.result.now
-    (c.deref.ensures.value ∙ c.in_ok-places.ensures.missing good) in
+returns g c = λ held.
+    let same = missing-contents g.N.Naming.digest_of c.args.objects.now held c.args.wants.now c.args.haves.now c.deref.result.now
+    (c.deref.ensures.value ∙ c.in_ok-places.ensures.missing held) in
     rw c.in_ok-places.ensures.known (rw same at c.in-Err.ensures)

@@ -4,6 +4,6 @@ use Rattle.revisions.proofs.Differences.{reached_commit}
 use Rattle.revisions.proofs.range_log.log_from.Goals as goal
 
 pub returns : goal.returns
-returns g c good =
-    c.in_ok-ids.ensures (reaches c.args.objects.now c.args.tip.now) good
-    (c.deref.ensures.value ∙ c.in_ok-flags.ensures.reached good) (reached_commit c.args.objects.now c.args.tip.now)
+returns g c held =
+    c.in_ok-ids.ensures (reaches c.args.objects.now c.args.tip.now) held
+    (c.deref.ensures.value ∙ c.in_ok-flags.ensures.reached held) (reached_commit c.args.objects.now c.args.tip.now)

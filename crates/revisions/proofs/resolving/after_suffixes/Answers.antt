@@ -17,11 +17,11 @@ one_more os suffixes i suffix at next within is found =
     rw (add-one, first) (went_on (after_suffix os suffix at) next (after_suffixes os (drop (suc i) suffixes)) found)
 
 pub loop-suffix-preserved : goal.loop-suffix-preserved
-loop-suffix-preserved g c good = let was = c.loop-suffix.invariant good in record {
+loop-suffix-preserved g c held = let was = c.loop-suffix.invariant held in record {
   rest = λ first ends.
       was.rest first ends ∙ one_more c.args.objects.now c.args.suffixes.now c.loop-suffix.suffix-index
       c.suffix-item.result c.loop-suffix.at c.in_ok-at.at c.loop-suffix-test.true c.suffix-item.is
-      (c.in_ok-at.ensures.found good (was.chain first) (was.tags ends));
-  chain = λ first. c.after_suffix.ensures.chain good (was.chain first);
-  tags = λ ends. c.after_suffix.ensures.tags good (was.tags ends);
+      (c.in_ok-at.ensures.found held (was.chain first) (was.tags ends));
+  chain = λ first. c.after_suffix.ensures.chain held (was.chain first);
+  tags = λ ends. c.after_suffix.ensures.tags held (was.tags ends);
 }

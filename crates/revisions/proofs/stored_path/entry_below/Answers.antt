@@ -6,17 +6,17 @@ use Rattle.revisions.proofs.stored_path.entry_below.Goals as goal
 
 pub returns-in-Ok-None : goal.returns-in-Ok-None
 returns-in-Ok-None g c =
-    λ good. sym (c.way.invariant good
+    λ held. sym (c.way.invariant held
     ∙ below-step c.args.objects.now _ _ _ (entry_of c.way.at) _ c.in-Some.ensures
-    (ap (option_map entry_of) (sym c.in-Ok-None.field-0-is) ∙ c.in-Ok-None.ensures good))
+    (ap (option_map entry_of) (sym c.in-Ok-None.field-0-is) ∙ c.in-Ok-None.ensures held))
 
 pub way-preserved : goal.way-preserved
 way-preserved g c =
-    λ good. c.way.invariant good
+    λ held. c.way.invariant held
     ∙ below-step c.args.objects.now _ _ _ (entry_of c.way.at) _ c.in-Some.ensures
-    (ap (option_map entry_of) (sym c.in-Ok-Some.field-0-is) ∙ c.in-Ok-Some.ensures good)
+    (ap (option_map entry_of) (sym c.in-Ok-Some.field-0-is) ∙ c.in-Ok-Some.ensures held)
 
 pub returns : goal.returns
 returns g c =
-    λ good. sym (c.way.invariant good
+    λ held. sym (c.way.invariant held
     ∙ below-here c.args.objects.now c.way.rest (entry_of c.way.at) c.in_default.ensures)

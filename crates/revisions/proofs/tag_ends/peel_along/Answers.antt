@@ -7,11 +7,11 @@ use Rattle.revisions.proofs.tag_ends.peel_along.Goals as goal
 
 pub returns-in-Some : goal.returns-in-Some
 returns-in-Some g c = record {
-  found = λ good ends.
-      let way = rw c.in-Some.is at c.in_ok-end-in-Commit.ensures.found good ends in
-      let same = peeled_past g.N.Naming.digest_of c.args.objects.now good c.args.wanted c.args.id c.in-Some.end
+  found = λ held ends.
+      let way = rw c.in-Some.is at c.in_ok-end-in-Commit.ensures.found held ends in
+      let same = peeled_past g.N.Naming.digest_of c.args.objects.now held c.args.wanted c.args.id c.in-Some.end
       (λ is. elim c.in-Commit.is [ inl at ↦ cc | inr rest ↦ elim rest [ inl at ↦ cc | inr at ↦ cc ] ]) way in
       subst (λ (o : Option (List ℕ)). Gives c.peel-in-Some.result (or_fault fault.WrongKind o)) same
-      (c.peel-in-Some.ensures good);
-  tags = λ good ends. c.end_of.ensures.tags good ends;
+      (c.peel-in-Some.ensures held);
+  tags = λ held ends. c.end_of.ensures.tags held ends;
 }

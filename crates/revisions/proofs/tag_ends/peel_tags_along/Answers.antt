@@ -5,7 +5,7 @@ use Rattle.revisions.proofs.TagWays.{without_is}
 use Rattle.revisions.proofs.tag_ends.peel_tags_along.Goals as goal
 
 pub returns-in-Some-clause-found : goal.returns-in-Some-clause-found
-returns-in-Some-clause-found g c good ends =
-    let way = rw c.in-Some.is at c.in_ok-end.ensures.found good ends in
+returns-in-Some-clause-found g c held ends =
+    let way = rw c.in-Some.is at c.in_ok-end.ensures.found held ends in
     ap (or_fault fault.WrongKind)
-    (without_is g.N.Naming.digest_of c.args.objects.now good c.args.id c.in-Some.end way)
+    (without_is g.N.Naming.digest_of c.args.objects.now held c.args.id c.in-Some.end way)

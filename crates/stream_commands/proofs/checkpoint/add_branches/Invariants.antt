@@ -1,5 +1,5 @@
 use Rattle.std.proofs.Common.{◌≡◌, ◌++◌, ℕ, take}
-use Rattle.git_model.specs.GoodRepository.{AreObjects}
+use Rattle.git_model.specs.HeldObjects.{AreHeld}
 use Rattle.tenant_refs.specs.Changes.{with_changes}
 use Rattle.stream_commands.specs.Checkpoints.{by_branches, kept_lines}
 use Rattle.stream_commands.specs.State.{state_shown, workspace_over}
@@ -9,7 +9,7 @@ use Rattle.stream_commands.proofs.checkpoint.add_branches.Given as goal
 abbrev pub invariant-loop-place : goal.invariant-loop-place
 invariant-loop-place g l = record {
   same : l.ancestry ≡ l.fn.ancestry;
-  saved : (committed : ℕ) → AreObjects g.N.Naming.digest_of l.fn.ancestry
+  saved : (committed : ℕ) → AreHeld g.N.Naming.digest_of l.fn.ancestry
       → let workspace = workspace_over (state_shown l.state) l.fn.ancestry committed l.refs in
       (with_changes l.refs l.saving.changes.items ≡ by_branches workspace
       (with_changes l.refs l.fn.saving.changes.items) (take l.place l.state.branches))

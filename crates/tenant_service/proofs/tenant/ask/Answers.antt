@@ -1,5 +1,7 @@
 use Rattle.std.proofs.Common.{ℕ, List, take, ap, sym, subst}
+use Rattle.git_model.proofs.Readables.{objects_are}
 use Rattle.git_model.specs.GoodRepository.{AreObjects}
+use Rattle.git_model.specs.HeldObjects.{AreHeld}
 use Rattle.git_model.specs.Repository.{Object, Repository}
 use Rattle.content_pool.specs.Pool.{Cells}
 use Rattle.tenant_tables.specs.View.{in_sight}
@@ -23,7 +25,7 @@ good-saved digest pool t settled sound =
 -- an answer changes the chain alone
 stands-with : (digest : List ℕ → List ℕ) (pool : Cells) (t : Tenant) (chain : List (List ℕ)) → Stands digest pool t
     → IsSoundTenantState digest (holding_in pool t)
-    → (AreObjects digest (objects pool (in_sight Committed t.table)) → IsFirstParentChain (objects pool (in_sight Committed t.table)) t.chain
+    → (AreHeld digest (objects pool (in_sight Committed t.table)) → IsFirstParentChain (objects pool (in_sight Committed t.table)) t.chain
     → IsFirstParentChain (objects pool (in_sight Committed t.table)) chain)
     → Stands digest pool (record { table = t.table; refs = t.refs; phase = t.phase; chain = chain })
 stands-with digest pool t chain was sound stays = record {
@@ -31,7 +33,7 @@ stands-with digest pool t chain was sound stays = record {
   settled = was.settled;
   opened = was.opened;
   files = was.files;
-  chain = stays (good-saved digest pool t was.settled sound) was.chain;
+  chain = stays (objects_are _ _ (good-saved digest pool t was.settled sound)) was.chain;
 }
 
 pub returns-in-Ok-clause-stands : goal.returns-in-Ok-clause-stands
@@ -45,7 +47,7 @@ returns-in-Ok-clause-own g c =
     let saved = saved_is t.phase c.args.pool.now t.table t.refs c.requires.stands.settled in
     let good = good-saved g.N.Naming.digest_of c.args.pool.now t c.requires.stands.settled c.requires.sound in
     took-told g.N.Naming.digest_of c.args.query.now _ (holding_in c.args.pool.now t) c.args.out.now.items c.answer_along.new.out.items saved
-    (c.in-Ok.ensures.told good c.requires.stands.chain)
+    (c.in-Ok.ensures.told (objects_are _ _ good) (λ _. good) c.requires.stands.chain)
 
 pub returns-in-Err-clause-stands : goal.returns-in-Err-clause-stands
 returns-in-Err-clause-stands g c =
@@ -59,4 +61,4 @@ returns-in-Err-clause-own g c =
     let good = good-saved g.N.Naming.digest_of c.args.pool.now t c.requires.stands.settled c.requires.sound in
     rw c.refusal_told.ensures
     (took-refused_query g.N.Naming.digest_of c.args.query.now _ (holding_in c.args.pool.now t) c.args.out.now.items c.answer_along.new.out.items
-    c.in-Err.refusal saved (c.in-Err.ensures.told good c.requires.stands.chain) c.in-Err.ensures.same)
+    c.in-Err.refusal saved (c.in-Err.ensures.told (objects_are _ _ good) (λ _. good) c.requires.stands.chain) c.in-Err.ensures.same)

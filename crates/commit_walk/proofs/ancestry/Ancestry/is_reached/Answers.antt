@@ -1,13 +1,13 @@
 use Rattle.std.proofs.Common.{List, subst, sym, ap, ◌∙◌, Bool, get_or, false, ◌-◌}
 use Rattle.git_model.specs.Repository.{Object}
-use Rattle.git_model.specs.GoodRepository.{AreObjects}
+use Rattle.git_model.specs.HeldObjects.{AreHeld}
 use Rattle.commit_walk.specs.Remembered.{Tells}
 use Rattle.commit_walk.proofs.Answers.{flag_tells}
 use Rattle.commit_walk.proofs.ancestry.Ancestry.is_reached.Goals as goal
 
 pub returns-clause-tells : goal.returns-clause-tells
 returns-clause-tells g c good =
-    let here = subst (AreObjects g.N.Naming.digest_of) (sym c.self.view_is) good in
+    let here = subst (AreHeld g.N.Naming.digest_of) (sym c.self.view_is) good in
     let known = c.in_ok-read_parents.ensures.places here (c.self.invariant.1 here).places in
     subst (λ (os : List Object). Tells os c.args.top c.args.place c.flag_at-yes.result) c.self.view_is (record {
       floor = c.floor_of-floor.result;

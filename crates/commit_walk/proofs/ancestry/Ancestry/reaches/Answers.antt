@@ -1,6 +1,6 @@
 use Rattle.std.proofs.Common.{List, sym, subst, ap, ◌∙◌, arith}
 use Rattle.git_model.specs.Repository.{Object}
-use Rattle.git_model.specs.GoodRepository.{AreObjects}
+use Rattle.git_model.specs.HeldObjects.{AreHeld}
 use Rattle.git_model.specs.Reach.{reaches}
 use Rattle.commit_walk.specs.Remembered.{Tells}
 use Rattle.commit_walk.proofs.Answers.{no_tip, no_old, not_after, place_tells}
@@ -21,13 +21,13 @@ pub returns-then-top-floor-clause-judged : goal.returns-then-top-floor-clause-ju
 returns-then-top-floor-clause-judged g c good =
     let top_is = c.in-Some-commit_place.ensures.1 in
     let floor_is = c.in-Some.ensures.1 in
-    sym (not_after _ c.self.inside.objects (subst (AreObjects g.N.Naming.digest_of) (sym c.self.view_is) good)
+    sym (not_after _ c.self.inside.objects (subst (AreHeld g.N.Naming.digest_of) (sym c.self.view_is) good)
     c.args.tip.now c.args.old.now (omega (arith, top_is, floor_is)))
     ∙ ap (λ (os : List Object). reaches os c.args.tip.now c.args.old.now) c.self.view_is
 
 pub returns-clause-judged : goal.returns-clause-judged
 returns-clause-judged g c good =
-    let here = subst (AreObjects g.N.Naming.digest_of) (sym c.self.view_is) good in
+    let here = subst (AreHeld g.N.Naming.digest_of) (sym c.self.view_is) good in
     let tip = c.in-Some-commit_place.ensures in
     let old = c.in-Some.ensures in
     let told : Tells c.self.inside.objects c.in-Some-commit_place.top c.in-Some.floor c.in_ok-is_reached.is_reached =

@@ -1,5 +1,5 @@
 use Rattle.std.proofs.Common.{◌≡◌, ℕ, ◌+◌, ◌-◌, ◌<◌, List, Some, slice_get, length}
-use Rattle.git_model.specs.GoodRepository.{AreObjects}
+use Rattle.git_model.specs.HeldObjects.{AreHeld}
 use Rattle.revisions.specs.FirstParents.{IsFirstParentChain}
 use Rattle.revisions.proofs.first_parents.FirstParentCache.along.Given as goal
 
@@ -7,7 +7,7 @@ use Rattle.revisions.proofs.first_parents.FirstParentCache.along.Given as goal
 abbrev pub invariant-way : goal.invariant-way
 invariant-way g l = record {
   within : l.at < length l.self-inside.commits.items;
-  chain : AreObjects g.N.Naming.digest_of l.objects → IsFirstParentChain l.objects l.fn.self
+  chain : AreHeld g.N.Naming.digest_of l.objects → IsFirstParentChain l.objects l.fn.self
       → IsFirstParentChain l.objects l.self-inside.commits.items;
   stays : (i : ℕ) (id : List ℕ) → slice_get l.fn.self i ≡ Some id → slice_get l.self-inside.commits.items i ≡ Some id;
 }

@@ -8,7 +8,7 @@ use Rattle.revisions.proofs.Ancestors.{chain-at, met-on}
 use Rattle.revisions.proofs.first_parents.FirstParentCache.found.Goals as goal
 
 pub returns-in-Ok-Some-clause-found : goal.returns-in-Ok-Some-clause-found
-returns-in-Ok-Some-clause-found g c commit good is way first refused =
+returns-in-Ok-Some-clause-found g c commit held is way first refused =
     let os = c.args.objects.now in
     let place : c.in-Ok-Some.field-0 ≡ Some c.in-Ok-Some.at = rw c.in-Ok-Some.is at c.in-Ok-Some.field-0-is in
     let met : c.args.met ≡ Ok (Some c.in-Ok-Some.at) = c.in-Ok-Some.is ∙ ap Ok place in
@@ -16,10 +16,10 @@ returns-in-Ok-Some-clause-found g c commit good is way first refused =
     let size : c.len.result ≡ length c.args.way.now = c.len.ensures ∙ c.way.inside.commits.ok.0 ∙ ap length own in
     met-on os c.args.self.now c.args.way.now c.args.n c.in-Ok-Some.at c.args.met commit c.along.result met c.requires.ends way first
     (λ id there. subst (λ (k : ℕ). Gives c.along.result (nth_ancestor os (c.args.n + 1 - k) id)) size
-    (c.along.ensures.found id good is there))
+    (c.along.ensures.found id held is there))
 
 pub returns-in-Ok-None-clause-found : goal.returns-in-Ok-None-clause-found
-returns-in-Ok-None-clause-found g c commit good is way first refused =
+returns-in-Ok-None-clause-found g c commit held is way first refused =
     let os = c.args.objects.now in
     let items = c.way.inside.commits.items in
     let none : c.in-Ok-None.field-0 ≡ None = rw c.in-Ok-None.is at c.in-Ok-None.field-0-is in

@@ -1,5 +1,5 @@
 use Rattle.std.proofs.Common.{◌≡◌, Some, slice_get, ◌+◌, ◌-◌, length}
-use Rattle.git_model.specs.GoodRepository.{AreObjects}
+use Rattle.git_model.specs.HeldObjects.{AreHeld}
 use Rattle.revisions.specs.FirstParents.{IsFirstParentChain}
 use Rattle.revisions.proofs.first_parents.FirstParentCache.walk_to.Given as goal
 
@@ -7,7 +7,7 @@ use Rattle.revisions.proofs.first_parents.FirstParentCache.walk_to.Given as goal
 abbrev pub invariant-way : goal.invariant-way
 invariant-way g l = record {
   begun : slice_get l.self-inside.commits.items 0 ≡ Some l.fn.commit;
-  chain : AreObjects g.N.Naming.digest_of l.objects → IsFirstParentChain l.objects l.fn.self
+  chain : AreHeld g.N.Naming.digest_of l.objects → IsFirstParentChain l.objects l.fn.self
       → IsFirstParentChain l.objects l.self-inside.commits.items;
 }
 

@@ -1,0 +1,23 @@
+package tenants
+
+import (
+	"context"
+	"fmt"
+	"strings"
+)
+
+// Branches is what names of branches begin with.
+const Branches = "refs/heads/"
+
+// SetHead lets HEAD name another branch that the tenant has, by a stream, as a user can.
+func (t Tenant) SetHead(ctx context.Context, ref string) error {
+	return t.Push(ctx, func(refs Refs) error {
+		if !strings.HasPrefix(ref, Branches) || refs.Target(ref) == (Name{}) {
+			return fmt.Errorf("%s has no branch %s", t.name, ref)
+		}
+		return nil
+	}, func(s *Stream) error {
+		_, err := s.WriteString("option gitpool head " + ref + "\n")
+		return err
+	})
+}
