@@ -24,7 +24,9 @@ import (
 	"gitpoold/access"
 	"gitpoold/audit"
 	"gitpoold/backups"
+	"gitpoold/catalogue"
 	"gitpoold/hooks"
+	"gitpoold/lfs"
 	"gitpoold/limits"
 	"gitpoold/lists"
 	"gitpoold/mirrors"
@@ -70,6 +72,8 @@ var listed = []struct{ name, comment string }{
 	{"hooks", "# PATTERN WHERE: a program or an http address that is told of pushes, or PATTERN pre-receive|update WHERE: a program that judges " +
 		"them; `gitpoold hooks` changes them."},
 	{protect.FileName, "# PATTERN REFS RULE..: no-delete, no-force, only=USER,@GROUP; `gitpoold protect` changes them."},
+	{lfs.ListName, lfs.Comment},
+	{catalogue.FileName, "# TENANT TEXT: `gitpoold describe` changes them."},
 	{"webhooks", webhooks.Comment},
 	{mirrors.ListName, mirrors.Comment},
 	{"owners", "# TENANT USER: the server writes who made each tenant."},
@@ -443,6 +447,18 @@ func runHooks(l line) error {
 		return errors.New("say `add PATTERN [pre-receive|update] WHERE` or `remove PATTERN [pre-receive|update] WHERE`")
 	}
 	return printLines(hooks.Rows(l.folder()))
+}
+
+// runLFS lists the tenants that keep files of Git LFS, or switches that on or off for some.
+func runLFS(l line) error {
+	words := l.words[1 : len(l.words)-1]
+	switch {
+	case len(words) == 0:
+		return printLines(lfs.Rows(l.folder()))
+	case len(words) == 2 && (words[1] == "on" || words[1] == "off"):
+		return change(l, lfs.ListName, func() error { return lfs.Switch(l.folder(), words[0], words[1] == "on") })
+	}
+	return errors.New("say `TENANT on` or `TENANT off`")
 }
 
 // runBackup keeps what a folder has in a folder of backups, as of a moment while its server runs, or as it is while none does.

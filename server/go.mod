@@ -5,7 +5,6 @@ go 1.19
 
 require (
 	github.com/gomodule/redigo v1.8.3
-	github.com/hexops/gotextdiff v1.0.3
 	github.com/klauspost/compress v1.15.12
 	github.com/yuin/goldmark v1.5.4
 	golang.org/x/crypto v0.25.0

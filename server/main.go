@@ -111,7 +111,8 @@ func serverCommands() []command {
 		{"unblock", "DIR user|tenant NAME", "take a block back", 3, 3, []string{"--socket"}, runUnblock},
 		{"hooks", "DIR [add|remove PATTERN [pre-receive|update] WHERE]", "list the hooks, or let a program or an http address be told of pushes, " +
 			"or let a program judge them before they change anything", 1, 5, []string{"--socket"}, runHooks},
-		protectCommand, webhookCommand, mirrorCommand, pushMirrorCommand,
+		{"lfs", "DIR [PATTERN on|off]", "list the tenants that keep files of Git LFS, or let some, or do so no more", 1, 3, []string{"--socket"}, runLFS},
+		protectCommand, describeCommand, webhookCommand, mirrorCommand, pushMirrorCommand,
 		{"audit", "DIR", "print what operators changed, and users of their own accounts: who, when and from where", 1, 1, nil, runAudit},
 	}
 }

@@ -17,9 +17,13 @@ import (
 	"golang.org/x/crypto/ssh"
 
 	"gitpoold/access"
+	"gitpoold/catalogue"
+	"gitpoold/collector"
 	"gitpoold/daily"
+	"gitpoold/highlight"
 	"gitpoold/hooks"
 	"gitpoold/httpd"
+	"gitpoold/lfs"
 	"gitpoold/limits"
 	"gitpoold/logs"
 	"gitpoold/markdown"
@@ -28,6 +32,7 @@ import (
 	"gitpoold/notify"
 	"gitpoold/operator"
 	"gitpoold/owners"
+	"gitpoold/packcache"
 	"gitpoold/protect"
 	"gitpoold/quarantine"
 	"gitpoold/regular"
@@ -56,6 +61,7 @@ type server struct {
 func runServe(l line) error {
 	syscall.Umask(0o077)
 	moreRunners()
+	collector.Begin(spareBytes)
 	// A file that may not grow is answered like a full disk, by this program and by the child.
 	signal.Ignore(syscall.SIGXFSZ)
 	signals := make(chan os.Signal, 2)
@@ -81,6 +87,7 @@ func runServe(l line) error {
 	}
 	s.site.Hooks.Close()
 	s.site.Daily.Save()
+	s.site.Catalogue.Save()
 	s.site.Log.Printf("the server has ended")
 	return failed
 }
@@ -119,6 +126,9 @@ func moreRunners() {
 	}
 }
 
+// spareBytes is by how much the heap may grow before it is collected.
+const spareBytes = 64 << 20
+
 // open reads the folder and starts the child.
 func open(l line) (*server, error) {
 	folder := l.folder()
@@ -153,22 +163,54 @@ func open(l line) (*server, error) {
 
 // serverOf gives a site its tenants, which are those of a pool.
 func serverOf(l line, pool *shards.Set, s *site.Site) (*server, error) {
-	made, err := owners.Open(s.Folder, s.Limits.Owned, pool.Bytes)
+	files, err := openFiles(pool, s)
+	if err != nil {
+		return nil, err
+	}
+	made, err := owners.Open(s.Folder, s.Limits.Owned, func(tenant string) int64 { return pool.Bytes(tenant) + files.Bytes(tenant) })
 	if err != nil {
 		return nil, err
 	}
 	all := tenants.New(pool, s.Limits.Quota)
 	all.Bound(made)
-	s.Pool, s.Owners, s.Elsewhere = all, made, pool.Follows
+	all.Beside(files.Bytes)
+	s.Pool, s.Owners, s.LFS, s.Elsewhere = all, made, files, pool.Follows
 	s.Daily = daily.Open(filepath.Join(s.Folder, "usage"), s.Limits.Daily, s.Log.Printf)
 	mirrored, err := mirrors.Open(s)
 	if err != nil {
 		return nil, err
 	}
 	s.Mirrors = mirrored
+	if s.Packs, err = packsOf(s); err != nil {
+		return nil, err
+	}
 	door := operator.New(s, pool)
 	door.Measure()
 	return &server{line: l, store: pool, site: s, door: door, mirrors: mirrored}, nil
+}
+
+// openFiles takes up the large files of tenants. A server that follows another one may not know yet what its tenants have.
+func openFiles(pool *shards.Set, s *site.Site) (*lfs.Store, error) {
+	has := pool.Has
+	if pool.IsReplica() {
+		has = nil
+	}
+	return lfs.Open(s.Folder, has, s.Log.Printf)
+}
+
+// packsOf keeps packs for clones of a site's tenants, but of those that the operator has blocked, and none while another server takes the pushes.
+func packsOf(s *site.Site) (*packcache.Cache, error) {
+	return packcache.New(packcache.Config{Folder: filepath.Join(s.Work, "packs"), Tell: s.Log.Printf, Metrics: s.Metrics,
+		Most: func() int64 { return s.Limits.Get().PackCache },
+		MayGrow: func() error {
+			if s.Limits.MayGrow(s.Work) != nil {
+				return packcache.ErrDisk
+			}
+			return nil
+		},
+		IsOff: func(tenant string) bool {
+			return s.Elsewhere() != nil || s.Access.Blocked("", tenant, access.Write) != nil
+		}})
 }
 
 // readLists gives a site with what the lists of its folder say, and without its tenants.
@@ -186,9 +228,13 @@ func readLists(folder string, bounds *limits.Limits, log *logs.Log, m *metrics.M
 		return nil, err
 	}
 	work := filepath.Join(folder, "work")
+	said, err := catalogue.Load(folder, log.Printf)
+	if err != nil {
+		return nil, err
+	}
 	views, err := quarantine.New(work, func() error { return bounds.MayGrow(work) })
-	return &site.Site{Access: who, Limits: bounds, Log: log, Metrics: m, Hooks: told, Protected: kept, Views: views, Version: version,
-		Folder: folder, Work: work, Markdown: markdown.HTML}, err
+	return &site.Site{Access: who, Limits: bounds, Log: log, Metrics: m, Hooks: told, Protected: kept, Catalogue: said, Views: views, Version: version,
+		Folder: folder, Work: work, Markdown: markdown.HTML, Highlight: highlight.Lines}, err
 }
 
 // openShards takes the shards up where their journals are, or follows the server that writes these.
@@ -255,6 +301,7 @@ func (s *server) http() (*way, error) {
 	if s.secured != nil {
 		s.httpsPort = listener.Addr().(*net.TCPAddr).Port
 		name, listener = "https", tls.NewListener(listener, s.secured.config)
+		s.site.URL = s.acmeURL()
 	} else if ip := listener.Addr().(*net.TCPAddr).IP; !ip.IsLoopback() {
 		s.site.Log.Printf("passwords travel unencrypted to %v: give --certificate, or put a front with TLS before it", listener.Addr())
 	}
@@ -331,18 +378,22 @@ func (s *server) keep() (end func()) {
 	keeping, stop := context.WithCancel(context.Background())
 	go s.store.Keep(keeping, s.rhythm)
 	go s.site.Daily.Keep(keeping.Done())
+	go s.site.Catalogue.Keep(keeping.Done())
 	s.site.Hooks.Start()
-	mirrored := make(chan struct{})
-	go func() {
-		defer close(mirrored)
-		s.mirrors.Keep(keeping)
-	}()
+	var gits sync.WaitGroup
+	for _, keep := range []func(context.Context){s.mirrors.Keep, s.site.Packs.Keep} {
+		gits.Add(1)
+		go func(keep func(context.Context)) {
+			defer gits.Done()
+			keep(keeping)
+		}(keep)
+	}
 	if s.secured != nil && s.secured.begin != nil {
 		s.secured.begin(keeping)
 	}
 	return func() {
 		stop()
-		<-mirrored
+		gits.Wait()
 	}
 }
 

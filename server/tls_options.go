@@ -4,6 +4,7 @@ import (
 	"context"
 	"crypto/tls"
 	"errors"
+	"fmt"
 	"net"
 	"net/http"
 	"path/filepath"
@@ -45,6 +46,18 @@ func (s *server) secure() (*secured, error) {
 		return nil, err
 	}
 	return &secured{it.TLS(), it.Challenges, it.Keep}, nil
+}
+
+// acmeURL is the address of https at the first of the names that `--acme` gives, "" where there are none.
+func (s *server) acmeURL() string {
+	names, err := httpd.ParseNames(s.line.flags["--acme"])
+	if err != nil || len(names) == 0 {
+		return ""
+	}
+	if s.httpsPort == 443 {
+		return "https://" + names[0]
+	}
+	return fmt.Sprintf("https://%s:%d", names[0], s.httpsPort)
 }
 
 // certificate reads the certificate's files, again when they have changed.

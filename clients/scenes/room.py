@@ -259,7 +259,7 @@ def commit_text(message: str, *, branch: str = "refs/heads/main", ident: str = "
     return (f"commit {branch}\nauthor {ident}\ncommitter {ident}\n{more}data {len(message.encode())}\n{message}\n{starts}{changes}\n")
 
 
-def wait_for(condition: Callable[[], bool], seconds: float = 20) -> None:
+def wait_for(condition: Callable[[], bool], seconds: float = 120) -> None:
     """Waits until a condition holds. Raises AssertionError where it does not in time."""
     until = time.monotonic() + seconds
     while not condition():

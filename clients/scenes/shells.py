@@ -83,7 +83,7 @@ def over_ssh_errors_arrive(room: Room) -> None:
     time.sleep(1)
     held.stdin.close()
     held.wait()
-    assert waiting.wait(60) == 0 and room.tenant_refs()["refs/heads/x"] == room.name(site, "main")
+    assert waiting.wait(300) == 0 and room.tenant_refs()["refs/heads/x"] == room.name(site, "main")
 
 
 @scene
@@ -146,7 +146,7 @@ def over_ssh_a_silent_client(room: Room) -> None:
     words = ["gitpool-shell", "--pool", room.pool, "--idle", "0.5", "acme/site", "push"]
     silent = subprocess.Popen(words, env=room.environment, stdin=subprocess.PIPE, stdout=subprocess.DEVNULL, stderr=subprocess.PIPE)
     assert silent.stderr
-    status, said = silent.wait(60), silent.stderr.read()
+    status, said = silent.wait(300), silent.stderr.read()
     assert status == 1 and b"nothing came for 0.5 seconds" in said, said
     room.commit(site, "New", {"new": "n\n"})
     room.git(site, "push", "-q", "pool", "main")
@@ -171,7 +171,7 @@ def a_push_that_sends_nothing_keeps_nobody(room: Room) -> None:
         room.git(site, "push", "-q", room.url(f"acme/other{number}"), "main")
         room.git(site, "push", "-q", "pool", f"main~1:refs/heads/first{number}")
         before = room.tenant_refs()
-        told, _ = helper.communicate(f"push {new}:refs/heads/first{number}\n\n\n".encode(), 60)
+        told, _ = helper.communicate(f"push {new}:refs/heads/first{number}\n\n\n".encode(), 300)
         assert told.startswith(b"error refs/heads/first") and b"another push" in told, told
         assert room.tenant_refs() == before
     room.git(site, "push", "-q", "pool", "main")
@@ -195,7 +195,7 @@ def over_ssh_a_push_that_is_overtaken(room: Room) -> None:
         process.stdout.read(17)
         room.git(site, "push", "-q", room.url(other), "main~1:refs/heads/between")
         before = room.pool_bytes()
-        _, said = process.communicate(timeout=60)
+        _, said = process.communicate(timeout=300)
         assert process.returncode == status, said
         assert status == 0 or b"another push has changed the tenant" in said and room.pool_bytes() == before, said
     assert room.tenant_refs("acme/overtaken") == {"refs/heads/main": room.name(site, "main")}
@@ -204,10 +204,10 @@ def over_ssh_a_push_that_is_overtaken(room: Room) -> None:
 @scene
 def over_ssh_a_fetch_saves_nothing(room: Room) -> None:
     room.pushed()
-    slow = stand_in(room, '"$PROGRAM" "$@"\nsleep 30')
+    slow = stand_in(room, '"$PROGRAM" "$@"\nsleep 150')
     begin = time.monotonic()
     done = room.run(["gitpool-shell", "--pool", room.pool, "acme/site", "fetch"], data=b"\4\0\1t\0\0\0\4refs", GITPOOL=slow)
-    assert done.returncode == 0 and time.monotonic() - begin < 20, done
+    assert done.returncode == 0 and time.monotonic() - begin < 140, done
 
 
 @scene

@@ -108,7 +108,7 @@ debian_packages_are_well_formed() {
 an_unproved_program_is_not_called_proved() {
   local it
   for it in "$room/out one"/*.deb; do
-    [[ $(dpkg-deb -f "$it" Version) == *+unproved ]]
+    [[ $(dpkg-deb -f "$it" Version) == *'~unproved' ]]
     ! dpkg-deb -f "$it" Description | grep -E "verified|is proved|proved (object|functions)"
   done
   same "$("$room/root/usr/bin/gitpool" --version)" "gitpool $version"$'\n'"commit: unknown"$'\n'"kit: unknown"$'\n'"logic: unknown"$'\n'"proved: no"
@@ -190,7 +190,7 @@ $("$room/root/usr/bin/gitpool" --version | sed 's/^gitpool /version: /; s/^/gitp
     [ -e "$room/root$it" ] || { echo "no $it"; return 1; }
   done
   cmp "$room/root/usr/share/doc/gitpool-server/redis.conf" "$top/server/redis.conf"
-  for it in Go golang-{golang-x-crypto,golang-x-sync,github-{gomodule-redigo,klauspost-compress,yuin-goldmark,hexops-gotextdiff}}-dev; do
+  for it in Go golang-{golang-x-crypto,golang-x-sync,github-{gomodule-redigo,klauspost-compress,yuin-goldmark,alecthomas-chroma-v2,dlclark-regexp2}}-dev; do
     has_licence_of "$it" "$room/root/usr/share/doc/gitpool-server/copyright"
   done
 }

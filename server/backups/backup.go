@@ -12,6 +12,7 @@ import (
 	"time"
 
 	"gitpoold/faultpoint"
+	"gitpoold/regular"
 )
 
 const (
@@ -48,7 +49,7 @@ func Make(source, to string, keep int) (name string, err error) {
 	if err := os.Rename(filepath.Join(to, nextName), filepath.Join(to, name)); err != nil {
 		return "", err
 	}
-	if err := syncFolder(to); err != nil {
+	if err := regular.SyncFolder(to); err != nil {
 		return "", err
 	}
 	faultpoint.Here("after a backup has its name")
@@ -123,7 +124,7 @@ func makeNext(source, to string, all []entry) error {
 	if err := write(filepath.Join(next, listName), format(all)); err != nil {
 		return err
 	}
-	return syncFolders(next)
+	return regular.SyncFolders(next)
 }
 
 // previous gives the newest moment of a folder, and its files by their paths. One that cannot be read has none.
@@ -176,7 +177,7 @@ func dropOld(to string, keep int) error {
 	for ; err == nil && len(names) > keep; names = names[1:] {
 		dropped := filepath.Join(to, droppedName)
 		if err = os.Rename(filepath.Join(to, names[0]), dropped); err == nil {
-			err = syncFolder(to)
+			err = regular.SyncFolder(to)
 		}
 		faultpoint.Here("before an old backup is removed")
 		if err == nil {
@@ -184,25 +185,6 @@ func dropOld(to string, keep int) error {
 		}
 	}
 	return err
-}
-
-// syncFolders syncs a folder and all below it.
-func syncFolders(folder string) error {
-	return filepath.WalkDir(folder, func(path string, it os.DirEntry, err error) error {
-		if err == nil && it.IsDir() {
-			err = syncFolder(path)
-		}
-		return err
-	})
-}
-
-func syncFolder(folder string) error {
-	file, err := os.Open(folder)
-	if err != nil {
-		return err
-	}
-	defer file.Close()
-	return file.Sync()
 }
 
 // Below tells whether a path leads into a folder.

@@ -14,6 +14,7 @@ import (
 	"strconv"
 	"strings"
 
+	"gitpoold/lfs"
 	"gitpoold/regular"
 )
 
@@ -100,24 +101,28 @@ func files(folder, below string) (all []entry, err error) {
 			all = append(all, more...)
 		case strings.Contains(path, "\n"):
 			return nil, errors.New("a file whose name has more than one line cannot be kept")
-		case info.Mode().IsRegular() && isKept(it.Name(), filepath.Base(below)):
+		case info.Mode().IsRegular() && isKept(path):
 			all = append(all, entry{path, info.Size(), "-"})
 		}
 	}
 	return all, err
 }
 
-// isPart tells whether a folder has something that is to be kept: a shard, a journal, or the table of places.
+// isPart tells whether a folder has something that is to be kept: a shard, a journal, the table of places, or the large files of a tenant.
 func isPart(path string) bool {
 	name := filepath.Base(path)
-	return path == name && shardName.MatchString(name) || isJournal(name)
+	return path == name && (shardName.MatchString(name) || name == lfs.FolderName) || isJournal(name) || isOfFiles(path) && name[0] != '.'
 }
+
+// isOfFiles tells whether a path leads to something below the large files of tenants.
+func isOfFiles(path string) bool { return strings.HasPrefix(path, lfs.FolderName+"/") }
 
 func isJournal(name string) bool { return name == "journal" || name == "places" }
 
-// isKept tells whether a file of a folder is to be kept.
-func isKept(name, of string) bool {
-	if isJournal(of) {
+// isKept tells whether a file is to be kept.
+func isKept(path string) bool {
+	name := filepath.Base(path)
+	if isJournal(filepath.Base(filepath.Dir(path))) && !isOfFiles(path) {
 		return segmentName.MatchString(name)
 	}
 	return !leftOut.MatchString(name)

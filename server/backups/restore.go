@@ -45,7 +45,7 @@ func Restore(from, moment, folder string) (name string, err error) {
 		os.RemoveAll(next)
 		return "", fmt.Errorf("%s is not restored: %w", folder, err)
 	}
-	return moment, syncFolder(filepath.Dir(filepath.Clean(folder)))
+	return moment, regular.SyncFolder(filepath.Dir(filepath.Clean(folder)))
 }
 
 func newest(from string) (string, error) {
@@ -92,7 +92,7 @@ func fill(source, next string, all []entry) error {
 			return &Damaged{from, "has other bytes than were written"}
 		}
 	}
-	return syncFolders(next)
+	return regular.SyncFolders(next)
 }
 
 // give gives a folder, with all that it has, to its owner.

@@ -8,6 +8,7 @@ import (
 	"os"
 	"path/filepath"
 
+	"gitpoold/lfs"
 	"gitpoold/lists"
 	"gitpoold/regular"
 )
@@ -37,7 +38,7 @@ func (e entry) take(folder, into string) error {
 	if err := os.MkdirAll(filepath.Dir(to), 0o700); err != nil {
 		return err
 	}
-	if isLarge := filepath.Base(to) == "pool" || isJournal(filepath.Base(filepath.Dir(to))); isLarge {
+	if isLarge := filepath.Base(to) == "pool" || isJournal(filepath.Base(filepath.Dir(to))) || lfs.ValidOID(filepath.Base(to)); isLarge {
 		// A link is followed: the pool file may be elsewhere.
 		if real, err := filepath.EvalSymlinks(from); err == nil && os.Link(real, to) == nil {
 			return nil

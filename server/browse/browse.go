@@ -6,14 +6,16 @@ import (
 	"context"
 	"errors"
 	"fmt"
+	"strconv"
 
 	"gitpoold/objects"
 	"gitpoold/tenants"
+	"gitpoold/walk"
 )
 
 // Source is what is asked: a tenant.
 type Source interface {
-	Objects(context.Context, []tenants.Name, func(tenants.Object) error) error
+	walk.Source
 	AskAll(context.Context, []string) ([][]byte, []error, error)
 }
 
@@ -61,17 +63,54 @@ type Entry struct {
 	Name tenants.Name
 }
 
-// IsTree tells whether the entry is a directory.
-func (e Entry) IsTree() bool { return e.Mode == objects.ModeTree }
+// The bits of a mode that say what an entry is, and those of an executable file.
+const (
+	formatBits    = 0o170000
+	treeFormat    = 0o040000
+	regularFormat = 0o100000
+	linkFormat    = 0o120000
+	ownerExecutes = 0o100
+)
 
-// IsGitlink tells whether the entry names a commit of another repository.
-func (e Entry) IsGitlink() bool { return e.Mode == objects.ModeGitlink }
+func (e Entry) format() uint64 {
+	mode, err := strconv.ParseUint(e.Mode, 8, 32)
+	if err != nil || e.Name.IsZero() {
+		return 0
+	}
+	return mode & formatBits
+}
+
+// IsTree tells whether the entry is a directory.
+func (e Entry) IsTree() bool { return e.format() == treeFormat }
 
 // IsLink tells whether the entry is a symbolic link.
-func (e Entry) IsLink() bool { return e.Mode == objects.ModeLink }
+func (e Entry) IsLink() bool { return e.format() == linkFormat }
+
+// IsFile tells whether the entry is a file that is no link.
+func (e Entry) IsFile() bool { return e.format() == regularFormat }
+
+// IsExecutable tells whether the entry is a file that may be run.
+func (e Entry) IsExecutable() bool {
+	mode, _ := strconv.ParseUint(e.Mode, 8, 32)
+	return e.IsFile() && mode&ownerExecutes != 0
+}
+
+// IsGitlink tells whether the entry names a commit of another repository. As in git, whatever has another format is one.
+func (e Entry) IsGitlink() bool {
+	return !e.Name.IsZero() && !e.IsTree() && !e.IsLink() && !e.IsFile()
+}
+
+// IsUsual tells whether git would write the entry's mode in this way.
+func (e Entry) IsUsual() bool {
+	switch e.Mode {
+	case objects.ModeTree, objects.ModeLink, objects.ModeGitlink, "100644", "100755":
+		return true
+	}
+	return false
+}
 
 // IsBlob tells whether the entry has contents of its own: a file or a symbolic link.
-func (e Entry) IsBlob() bool { return !e.IsTree() && !e.IsGitlink() && !e.Name.IsZero() }
+func (e Entry) IsBlob() bool { return e.IsFile() || e.IsLink() }
 
 // Entries reads a tree.
 func Entries(o tenants.Object) (entries []Entry, err error) {

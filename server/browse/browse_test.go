@@ -7,16 +7,20 @@ import (
 	"errors"
 	"fmt"
 	"io"
+	"strconv"
 	"strings"
 	"testing"
 	"time"
 
+	"gitpoold/objects"
 	"gitpoold/pack"
 	"gitpoold/tenants"
+	"gitpoold/walk"
 )
 
 // memory has objects, and counts how many were read.
 type memory struct {
+	walk.Source
 	objects map[tenants.Name]tenants.Object
 	read    int
 }
@@ -44,11 +48,58 @@ func (m *memory) Objects(_ context.Context, names []tenants.Name, use func(tenan
 }
 
 func (m *memory) AskAll(_ context.Context, queries []string) (replies [][]byte, errs []error, err error) {
-	faults := map[string]error{"rev-parse none": tenants.ErrMissing, "rev-parse many": tenants.Fault{Number: 17}, "rev-parse full": tenants.Fault{Number: 90}}
+	faults := map[string]error{"none": tenants.ErrMissing, "many": tenants.Fault{Number: 17}, "full": tenants.Fault{Number: 90}}
 	for _, query := range queries {
-		replies, errs = append(replies, []byte(strings.Repeat("a", 40)+"\n")), append(errs, faults[query])
+		word, back, hasBack := strings.Cut(strings.TrimPrefix(query, "rev-parse "), "~")
+		reply, err := strings.Repeat("a", 40), faults[word]
+		if hasBack {
+			reply, err = m.firstParent(word, back)
+		}
+		replies, errs = append(replies, []byte(reply+"\n")), append(errs, err)
 	}
 	return replies, errs, nil
+}
+
+// firstParent gives the commit that is so many first parents back.
+func (m *memory) firstParent(of, back string) (string, error) {
+	name, _ := tenants.ParseName(of)
+	count, err := strconv.Atoi(back)
+	for ; count > 0 && err == nil; count-- {
+		head := objects.ReadHead(m.objects[name].Contents)
+		if len(head.Parents) == 0 {
+			return "", tenants.ErrMissing
+		}
+		name = head.Parents[0]
+	}
+	return name.String(), err
+}
+
+// Missing lists what one tree reaches.
+func (m *memory) Missing(_ context.Context, wants, _ []tenants.Name) (found tenants.Listing, err error) {
+	for names := wants; len(names) > 0; names = names[1:] {
+		o := m.objects[names[0]]
+		found = found.With(o.Name, o.Kind, uint64(len(o.Contents)))
+		if o.Kind == tenants.Tree {
+			entries, err := Entries(o)
+			if err != nil {
+				return nil, err
+			}
+			for _, it := range entries {
+				names = append(names, it.Name)
+			}
+		}
+	}
+	return found, nil
+}
+
+// Commits takes all names for those of commits.
+func (m *memory) Commits(_ context.Context, names []tenants.Name) (commits, others []tenants.Name, err error) {
+	return names, nil, nil
+}
+
+// Log knows no way to ask for many commits at once.
+func (m *memory) Log(context.Context, string) ([]tenants.Name, error) {
+	return nil, tenants.Fault{Number: 25}
 }
 
 func (m *memory) commit(tree tenants.Name, seconds int, parents ...tenants.Name) tenants.Name {
@@ -69,6 +120,9 @@ func (m *memory) tree(entries ...Entry) tenants.Name {
 
 var background = context.Background()
 
+// much is more than any test reads.
+var much = Bounds{1 << 30, 1 << 40, time.Hour}
+
 func TestNamesGivesZerosForWhatIsNotThere(t *testing.T) {
 	m := &memory{}
 	names, err := Names(background, m, "one", "none", "many")
@@ -88,7 +142,7 @@ func TestLogGoesFromNewToOld(t *testing.T) {
 	top := m.commit(empty, 40, left, right)
 	var seen []string
 	for from := []tenants.Name{top}; len(from) > 0; {
-		commits, next, err := Log(background, m, from, 2)
+		commits, next, err := Log(background, m, Query{From: from, Most: 2, Bounds: much})
 		if err != nil || len(commits) > 2 {
 			t.Fatal(err)
 		}
@@ -113,8 +167,9 @@ func TestLogReadsABoundedNumber(t *testing.T) {
 		}
 		heads = append(heads, head)
 	}
-	if _, _, err := Log(background, m, heads, 1<<30); err != nil || m.read > mostRead+1 {
-		t.Fatal(m.read, err)
+	_, next, err := Log(background, m, Query{From: heads, Most: 1 << 30, Bounds: Bounds{2000, 1 << 30, time.Hour}})
+	if err != nil || m.read > 2000+mostAhead || len(next) == 0 {
+		t.Fatal(m.read, len(next), err)
 	}
 }
 
@@ -189,7 +244,7 @@ func TestArchivesHaveABound(t *testing.T) {
 	blob, odd := m.add(tenants.Blob, strings.Repeat("x", 1000)), m.add(tenants.Blob, "a\x00b")
 	tree := m.tree(Entry{"120000", "\xff\nlink", odd}, Entry{"100755", strings.Repeat("long", 100), blob}, Entry{"160000", "module", blob})
 	var text bytes.Buffer
-	if err := (Archive{Prefix: "p/", Files: 10, Bytes: 2000}).Write(background, m, &text, tree); err != nil {
+	if err := (Archive{Format: Tar, Prefix: "p/", Files: 10, Bytes: 3000}).Write(background, m, &text, tree); err != nil {
 		t.Fatal(err)
 	}
 	var names []string
@@ -210,7 +265,7 @@ func TestArchivesHaveABound(t *testing.T) {
 	for depth := 0; depth < 60; depth++ {
 		tree = m.tree(Entry{"40000", "a", tree}, Entry{"40000", "b", tree})
 	}
-	for _, a := range []Archive{{Files: 1000, Bytes: 1 << 40}, {Files: 1 << 40, Bytes: 100000}} {
+	for _, a := range []Archive{{Format: Tar, Files: 1000, Bytes: 1 << 40}, {Format: Zip, Files: 1 << 40, Bytes: 100000}} {
 		if err := a.Write(background, m, io.Discard, tree); !errors.Is(err, ErrTooMuch) {
 			t.Fatal(err)
 		}

@@ -1,81 +1,74 @@
 package browse
 
 import (
-	"bytes"
-	"container/heap"
 	"context"
 
 	"gitpoold/tenants"
 )
 
-// mostRead is how many commits a page of a history reads at most: those that it shows, and their parents.
-const mostRead = 2000
+// Query says which commits of a history Log gives.
+type Query struct {
+	From []tenants.Name
+	Path string  // those alone that changed what is there
+	Text Pattern // those alone whose message has it
+	Most int     // so many at most
+	Bounds
+}
 
-// Log gives commits that some commits reach, at most so many, from new to old by the committer's time, and those with which the next
-// page begins. Where clocks went backwards, a later page may show a commit again.
-func Log(ctx context.Context, s Source, from []tenants.Name, most int) (commits []*Commit, next []tenants.Name, err error) {
-	w := &walk{source: s, seen: map[tenants.Name]bool{}}
-	if err := w.load(ctx, from); err != nil {
+// Log gives commits that some commits reach, from new to old by the committer's time, and those with which the next page begins. Of a path it
+// gives the commits that git-log(1) gives. Where clocks went backwards, a later page may show a commit again.
+func Log(ctx context.Context, s Source, q Query) (commits []*Commit, next []tenants.Name, err error) {
+	p := newPast(s, q.Bounds, q.Path)
+	from, err := p.load(ctx, q.From)
+	if err != nil {
 		return nil, nil, err
 	}
-	for w.Len() > 0 && len(commits) < most && len(w.seen) < mostRead {
-		c := heap.Pop(w).(*Commit)
-		commits = append(commits, c)
-		if err := w.load(ctx, c.Parents); err != nil {
+	seen := map[tenants.Name]bool{}
+	p.pushUnseen(seen, from)
+	for p.queue.Len() > 0 && len(commits) < q.Most && !p.isSpent() {
+		c := p.pop()
+		parents, err := p.load(ctx, c.Parents)
+		if err != nil {
 			return nil, nil, err
 		}
+		follow, isChange, err := p.simplified(ctx, c, parents)
+		if err != nil {
+			return nil, nil, err
+		}
+		if p.pushUnseen(seen, follow); isChange && q.Text.IsIn(c.Subject, c.Body) {
+			commits = append(commits, c)
+		}
 	}
-	for w.Len() > 0 {
-		next = append(next, heap.Pop(w).(*Commit).Name)
+	for p.queue.Len() > 0 {
+		next = append(next, p.pop().Name)
 	}
 	return commits, next, nil
 }
 
-// walk has commits that were read and not shown, the newest on top.
-type walk struct {
-	source Source
-	seen   map[tenants.Name]bool
-	queue  []*Commit
-}
-
-func (w *walk) load(ctx context.Context, names []tenants.Name) error {
-	var fresh []tenants.Name
-	for _, name := range names {
-		if !w.seen[name] {
-			w.seen[name] = true
-			fresh = append(fresh, name)
+func (p *past) pushUnseen(seen map[tenants.Name]bool, commits []*Commit) {
+	for _, c := range commits {
+		if !seen[c.Name] {
+			seen[c.Name] = true
+			p.push(c)
 		}
 	}
-	return w.source.Objects(ctx, fresh, func(o tenants.Object) error {
-		c, err := ReadCommit(o)
-		if err == nil {
-			heap.Push(w, c)
-		}
-		return err
-	})
 }
 
-// Len, Less, Swap, Push and Pop make a heap.
-func (w *walk) Len() int { return len(w.queue) }
-
-// Less puts later commits first, and those of one second in the order of their names.
-func (w *walk) Less(i, k int) bool {
-	a, b := w.queue[i], w.queue[k]
-	if !a.Committer.When.Equal(b.Committer.When) {
-		return a.Committer.When.After(b.Committer.When)
+// simplified gives the parents to which a history of a path goes on, and whether the commit has changed the path: a commit that has there what a
+// parent has is no change, and the history goes on to that parent alone.
+func (p *past) simplified(ctx context.Context, c *Commit, parents []*Commit) (follow []*Commit, isChange bool, err error) {
+	if p.path == "" {
+		return parents, true, nil
 	}
-	return bytes.Compare(a.Name[:], b.Name[:]) < 0
-}
-
-// Swap swaps two commits.
-func (w *walk) Swap(i, k int) { w.queue[i], w.queue[k] = w.queue[k], w.queue[i] }
-
-// Push adds a commit.
-func (w *walk) Push(it any) { w.queue = append(w.queue, it.(*Commit)) }
-
-// Pop takes the last one.
-func (w *walk) Pop() any {
-	it := w.queue[len(w.queue)-1]
-	w.queue = w.queue[:len(w.queue)-1]
-	return it
+	own, err := p.at(ctx, c, p.path)
+	if err != nil {
+		return nil, false, err
+	}
+	for at, parent := range parents {
+		it, err := p.at(ctx, parent, p.path)
+		if err != nil || it == own {
+			return parents[at : at+1], false, err
+		}
+	}
+	return parents, len(parents) > 0 || !own.Name.IsZero(), nil
 }

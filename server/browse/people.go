@@ -27,7 +27,14 @@ type Commit struct {
 	Parents           []tenants.Name
 	Author, Committer Person
 	Message
+	// Signature is what the commit is signed with, such as OpenPGP, or "". Nobody has verified it.
+	Signature string
+	// Further are the headers that say none of this.
+	Further []Header
 }
+
+// Header is a line of an object's header, with those that continue it.
+type Header struct{ Word, Value string }
 
 // Tag is an annotated tag.
 type Tag struct {
@@ -36,6 +43,7 @@ type Tag struct {
 	Label  string // the tag's own name
 	Tagger Person
 	Message
+	Signature string // as that of a commit
 }
 
 // ReadCommit reads a commit.
@@ -46,8 +54,16 @@ func ReadCommit(o tenants.Object) (*Commit, error) {
 	head, message := readHeader(o.Contents)
 	read := objects.ReadHead(o.Contents)
 	text := decoder(head["encoding"])
-	return &Commit{Name: o.Name, Tree: read.Tree, Parents: read.Parents, Author: readPerson(head["author"], text),
-		Committer: readPerson(head["committer"], text), Message: readMessage(text(message))}, nil
+	c := &Commit{Name: o.Name, Tree: read.Tree, Parents: read.Parents, Author: readPerson(head["author"], text),
+		Committer: readPerson(head["committer"], text), Message: readMessage(text(message))}
+	for _, it := range lastHeaders(o.Contents) {
+		if word := string(it.Word); word == "gpgsig" || word == "gpgsig-sha256" {
+			c.Signature = signatureOf(it.Value)
+		} else {
+			c.Further = append(c.Further, Header{word, text([]byte(it.Value))})
+		}
+	}
+	return c, nil
 }
 
 // ReadTag reads an annotated tag.
@@ -58,8 +74,61 @@ func ReadTag(o tenants.Object) (*Tag, error) {
 	head, message := readHeader(o.Contents)
 	text := decoder(nil)
 	target, _ := objects.Tagged(o.Contents)
-	return &Tag{Name: o.Name, Target: target, Label: string(head["tag"]), Tagger: readPerson(head["tagger"], text),
-		Message: readMessage(text(message))}, nil
+	t := &Tag{Name: o.Name, Target: target, Label: string(head["tag"]), Tagger: readPerson(head["tagger"], text)}
+	if at := signatureAt(string(message)); at >= 0 {
+		t.Signature = signatureOf(string(message[at:]))
+		message = message[:at]
+	}
+	t.Message = readMessage(text(message))
+	return t, nil
+}
+
+// kinds are what signatures begin with.
+var kinds = []struct{ front, name string }{
+	{"-----BEGIN PGP SIGNATURE-----", "OpenPGP"}, {"-----BEGIN PGP MESSAGE-----", "OpenPGP"}, {"-----BEGIN SSH SIGNATURE-----", "SSH"},
+	{"-----BEGIN SIGNED MESSAGE-----", "X.509"}}
+
+func signatureOf(text string) string {
+	for _, it := range kinds {
+		if strings.HasPrefix(text, it.front) {
+			return it.name
+		}
+	}
+	return "an unknown form"
+}
+
+// signatureAt is where the signature of a tag begins in its message, the last line that begins one; or -1.
+func signatureAt(message string) int {
+	found := -1
+	for _, it := range kinds {
+		at := strings.LastIndex("\n"+message, "\n"+it.front)
+		if at > found {
+			found = at
+		}
+	}
+	return found
+}
+
+// lastHeaders gives the headers that come after the committer and are no encoding.
+func lastHeaders(contents []byte) (all []Header) {
+	usual := map[string]bool{"tree": true, "parent": true, "author": true, "committer": true, "encoding": true}
+	isUsual := true
+	for {
+		line, rest, found := bytes.Cut(contents, []byte("\n"))
+		if len(line) == 0 || !found {
+			return all
+		}
+		word, value, _ := bytes.Cut(line, []byte(" "))
+		switch {
+		case len(word) > 0:
+			if isUsual = usual[string(word)]; !isUsual {
+				all = append(all, Header{string(word), string(value)})
+			}
+		case !isUsual:
+			all[len(all)-1].Value += "\n" + string(value)
+		}
+		contents = rest
+	}
 }
 
 // readHeader gives the values of header lines, the last one where several have one word, and the message.

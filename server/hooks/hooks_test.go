@@ -16,6 +16,7 @@ import (
 	"testing"
 	"time"
 
+	"gitpoold/await"
 	"gitpoold/lists"
 	"gitpoold/metrics"
 	"gitpoold/webhooks"
@@ -57,7 +58,7 @@ func (h *told) noted() string {
 // settle waits until hooks are told of all pushes.
 func (h *told) settle(t *testing.T) {
 	t.Helper()
-	await(t, "hooks have been told", func() bool { return h.Waiting() == 0 })
+	await.Until(t, "hooks have been told", func() bool { return h.Waiting() == 0 })
 }
 
 func (h *told) result(name string) int {
@@ -70,15 +71,6 @@ func (h *told) result(name string) int {
 		return 0
 	}
 	return count
-}
-
-func await(t *testing.T, what string, is func() bool) {
-	t.Helper()
-	for until := time.Now().Add(time.Minute); !is(); time.Sleep(time.Millisecond) {
-		if time.Now().After(until) {
-			t.Fatal("not in time: " + what)
-		}
-	}
 }
 
 func must(t *testing.T, err error) {
@@ -193,14 +185,15 @@ func TestASlowHookHoldsUpNobody(t *testing.T) {
 	folder := t.TempDir()
 	slow := script(t, "echo $$ > "+folder+"/pid; sleep 600 & wait")
 	quick := script(t, "cat > "+folder+"/quick")
-	h := loaded(t, 3*time.Second, "* "+slow, "* "+silent(t), "* "+quick)
+	const within = 10 * time.Second
+	h := loaded(t, within, "* "+slow, "* "+silent(t), "* "+quick)
 	began := time.Now()
 	h.Tell(pushTo("acme/site", "refs/heads/main"))
-	if took := time.Since(began); took > 2*time.Second {
+	if took := time.Since(began); took >= within {
 		t.Error("a push waited", took)
 	}
-	await(t, "the other hook is told", func() bool { return contents(folder+"/quick") != "" })
-	await(t, "the slow ones are late", func() bool { return h.result("late") == 2 })
+	await.Until(t, "the other hook is told", func() bool { return contents(folder+"/quick") != "" })
+	await.Until(t, "the slow ones are late", func() bool { return h.result("late") == 2 })
 	if h.result("ok") != 1 || strings.Count(h.noted(), "longer than a hook may take") != 2 {
 		t.Error(h.result("late"), h.noted())
 	}
@@ -209,9 +202,9 @@ func TestASlowHookHoldsUpNobody(t *testing.T) {
 	}
 }
 
-// isGone tells whether a process group has no process but such as are dead.
+// isGone tells whether a process group has no process but such as are dead, or soon has none.
 func isGone(group int) bool {
-	for until := time.Now().Add(20 * time.Second); time.Now().Before(until); time.Sleep(time.Millisecond) {
+	for until := time.Now().Add(await.Longest); time.Now().Before(until); time.Sleep(time.Millisecond) {
 		if syscall.Kill(-group, 0) != nil {
 			return true
 		}
@@ -250,7 +243,7 @@ func TestAHookThatFails(t *testing.T) {
 	} {
 		h := loaded(t, time.Minute, "* "+where)
 		h.Tell(pushTo("acme/site", large...))
-		await(t, "it fails", func() bool { return h.result("failed") > 0 && h.noted() != "" })
+		await.Until(t, "it fails", func() bool { return h.result("failed") > 0 && h.noted() != "" })
 		if got := h.noted(); h.result("failed") != 1 || !strings.Contains(got, says) || strings.Contains(got, "secret") {
 			t.Errorf("%s: %q", where, got)
 		}
@@ -282,7 +275,7 @@ func TestAHookThatFloods(t *testing.T) {
 		}
 		h := loaded(t, within, "* "+where)
 		h.Tell(pushTo("acme/site", "refs/heads/main"))
-		await(t, result, func() bool { return h.result(result) == 1 })
+		await.Until(t, result, func() bool { return h.result(result) == 1 })
 		if len(h.noted()) > 1000 {
 			t.Errorf("%s: no %s, %.300q", where, result, h.noted())
 		}
@@ -335,11 +328,11 @@ func TestCloseEndsWhatIsAtWork(t *testing.T) {
 	for i := 0; i < 3; i++ {
 		h.Tell(pushTo("acme/site", "refs/heads/main"))
 	}
-	await(t, "the hook is at work", func() bool { return contents(folder+"/pid") != "" })
+	await.Until(t, "the hook is at work", func() bool { return contents(folder+"/pid") != "" })
 	began := time.Now()
 	h.Close()
 	group, _ := strconv.Atoi(strings.TrimSpace(contents(folder + "/pid")))
-	if time.Since(began) > 20*time.Second || group == 0 || !isGone(group) {
+	if time.Since(began) > await.Longest || group == 0 || !isGone(group) {
 		t.Fatal("the hook runs still", group)
 	}
 	if got := h.noted(); !strings.Contains(got, "hooks are not told of 3 pushes") || !strings.Contains(got, "told of 3 events after the next start") {

@@ -9,6 +9,8 @@ import (
 	"sync"
 	"testing"
 	"time"
+
+	"gitpoold/await"
 )
 
 // judgedBy lets scripts judge a push of two refs, and gives the reasons and what the user is shown.
@@ -69,18 +71,20 @@ func TestHooksDecline(t *testing.T) {
 // TestHooksThatFail has hooks that hang, die, are none, or leave what holds their pipes: a sentence each, in time, and a line for the operator.
 func TestHooksThatFail(t *testing.T) {
 	pids := filepath.Join(t.TempDir(), "pids")
+	const late = "the pre-receive hook took longer than 1s, and was ended"
 	for text, says := range map[string]string{
-		"sleep 300 & echo $! >> " + pids + "; sleep 300": "the pre-receive hook took longer than 1s, and was ended",
-		"trap '' TERM INT; while :; do :; done":          "the pre-receive hook took longer than 1s, and was ended",
+		"sleep 300 & echo $! >> " + pids + "; sleep 300": late,
+		"trap '' TERM INT; while :; do :; done":          late,
 		"kill -KILL $$":                                  "the pre-receive hook died: signal: killed",
 		"sleep 300 & echo $! >> " + pids + "; exit 1":    "pre-receive hook declined",
 		"cat > /dev/null; cd /; rm -rf $OLDPWD; exit 1":  "pre-receive hook declined",
 		"exec 0<&- 1>&- 2>&-; exit 1":                    "pre-receive hook declined",
 	} {
-		h := loaded(t, time.Second, pre(t, text))
+		within := map[bool]time.Duration{true: time.Second, false: await.Longest}[says == late]
+		h := loaded(t, within, pre(t, text))
 		began := time.Now()
 		reasons, _ := judgedBy(t, context.Background(), h)
-		if reasons[0] != says || reasons[1] != says || time.Since(began) > 30*time.Second {
+		if reasons[0] != says || reasons[1] != says || time.Since(began) > await.Longest {
 			t.Errorf("%s: %q after %v", text, reasons, time.Since(began))
 		}
 	}
@@ -97,7 +101,7 @@ func TestHooksThatFail(t *testing.T) {
 // awaitGone waits until a process is gone, or is one that nobody has waited for.
 func awaitGone(t *testing.T, pid string) {
 	t.Helper()
-	await(t, "the process "+pid+" has ended", func() bool {
+	await.Until(t, "the process "+pid+" has ended", func() bool {
 		text := contents("/proc/" + pid + "/stat")
 		return text == "" || strings.Contains(text, ") Z ")
 	})
@@ -130,7 +134,7 @@ func TestAPushThatEndsTakesItsHooksAlong(t *testing.T) {
 			reasons, _ := judgedBy(t, ctx, h)
 			ended <- reasons
 		}()
-		await(t, "the hook runs", func() bool { return strings.HasSuffix(contents(pids), "\n") })
+		await.Until(t, "the hook runs", func() bool { return strings.HasSuffix(contents(pids), "\n") })
 		if end == "push" {
 			stop()
 		} else {
@@ -158,7 +162,7 @@ func TestHooksThatHangKeepNobodyElse(t *testing.T) {
 			h.Judge(ctx, push)
 		}("mallory~" + strconv.Itoa(at))
 	}
-	await(t, "as many hooks run as may", func() bool { return strings.Count(contents(pids), "\n") == judgesAtOnce.OfOneOfIt[0] })
+	await.Until(t, "as many hooks run as may", func() bool { return strings.Count(contents(pids), "\n") == judgesAtOnce.OfOneOfIt[0] })
 	if reasons, _ := judgedBy(t, context.Background(), h); reasons[0] != "pre-receive hook declined" {
 		t.Error(reasons)
 	}

@@ -27,6 +27,8 @@ import (
 	"time"
 
 	"golang.org/x/crypto/acme"
+
+	"gitpoold/await"
 )
 
 // authority is a small server of ACME (RFC 8555), with one challenge for each name. It looks for the challenge at a host of its own choice, and signs
@@ -256,12 +258,7 @@ func (n *notes) count(front string) (count int) {
 // waitFor waits until so many lines begin so.
 func (n *notes) waitFor(t *testing.T, front string, count int) {
 	t.Helper()
-	for until := time.Now().Add(60 * time.Second); time.Now().Before(until); time.Sleep(5 * time.Millisecond) {
-		if n.count(front) >= count {
-			return
-		}
-	}
-	t.Fatalf("too little begins with %q: %d lines, the first of which is %q", front, len(n.lines), append(n.lines, "")[0])
+	await.Until(t, fmt.Sprintf("%d lines that begin with %q", count, front), func() bool { return n.count(front) >= count })
 }
 
 // hosted is a host with https, and with plain http that redirects.

@@ -9,7 +9,9 @@ import (
 	"net/http"
 	"time"
 
+	"gitpoold/access"
 	"gitpoold/daily"
+	"gitpoold/lfs"
 	"gitpoold/limits"
 	"gitpoold/logs"
 	"gitpoold/pktline"
@@ -27,6 +29,11 @@ type exchange struct {
 	began  time.Time
 	record logs.Request
 	meter  *daily.Meter
+	// right is what the request needs. The others are of Git LFS: the pass that was shown, and the file or the lock that is asked for.
+	right access.Right
+	isLFS bool
+	pass  lfs.Pass
+	item  string
 
 	hasFinished bool
 }
@@ -57,6 +64,10 @@ func (e *exchange) finish() {
 }
 
 func (e *exchange) fail(status int, why string) {
+	if e.isLFS {
+		e.sayLFS(status, map[string]string{"message": why})
+		return
+	}
 	e.finish()
 	http.Error(e.w, why, status)
 }

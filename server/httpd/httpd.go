@@ -145,7 +145,7 @@ func address(r *http.Request) string {
 func (e *exchange) service() {
 	found := servicePath.FindStringSubmatch(e.r.URL.Path)
 	if lfs := lfsPath.FindStringSubmatch(e.r.URL.Path); found == nil && lfs != nil {
-		e.refuseLFS(lfs[1])
+		e.lfs(lfs[1], lfs[2])
 		return
 	}
 	if found == nil && dumbPath.MatchString(e.r.URL.Path) {
@@ -165,6 +165,7 @@ func (e *exchange) service() {
 		e.fail(http.StatusForbidden, "this server speaks Git's smart protocol alone; please upgrade git")
 		return
 	}
+	e.right = services.Right(e.name)
 	if isAdvertisement {
 		e.with(http.MethodGet, (*exchange).advertise)
 	} else {
@@ -197,7 +198,7 @@ func (e *exchange) with(method string, answer func(*exchange, context.Context, t
 		return
 	}
 	e.meter, e.w.meter = meter, meter
-	watched, end := e.Watch(e.r.Context(), e.record.User, e.record.Tenant, services.Right(e.name), func(error) { stop(e.r) })
+	watched, end := e.Watch(e.r.Context(), e.record.User, e.record.Tenant, e.right, func(error) { stop(e.r) })
 	defer end()
 	answer(e, watched, t)
 }
@@ -214,7 +215,9 @@ func (e *exchange) open() (t tenants.Tenant, ok bool) {
 		e.askPassword(err.Error())
 		return t, false
 	}
-	t, err = e.Open(user, e.record.Tenant, services.Right(e.name))
+	if t, err = e.Open(user, e.record.Tenant, e.right); err == nil && e.pass.Login != "" && e.pass.Right < e.right {
+		err = site.ErrReadOnly
+	}
 	var blocked *access.Blocked
 	switch {
 	case err == nil:
@@ -236,6 +239,9 @@ const busyFor = "10"
 
 // login tells who the user is, "" for a visitor without a password. It is access.ErrWrong or access.ErrBusy where the user is not let in.
 func (e *exchange) login() (user string, err error) {
+	if text := bearer(e.r); e.isLFS && text != "" {
+		return e.showPass(text)
+	}
 	user, password, hasUser := e.r.BasicAuth()
 	if hasUser && user != "" {
 		err = e.Access.Password(e.r.Context(), user, password, e.record.Address)

@@ -8,11 +8,11 @@ import (
 	"net/http"
 	"net/http/httptest"
 	"path/filepath"
-	"runtime"
 	"testing"
 	"time"
 
 	"gitpoold/access"
+	"gitpoold/await"
 	"gitpoold/limits"
 	"gitpoold/logs"
 	"gitpoold/metrics"
@@ -56,7 +56,7 @@ func TestARefusedRequestTakesNoLongerThanAnother(t *testing.T) {
 		_, _ = io.Copy(io.Discard, c)
 		close(ended)
 	}()
-	late := time.After(20 * time.Second)
+	late := time.After(await.Longest)
 	for {
 		select {
 		case <-ended:
@@ -98,8 +98,13 @@ func TestPasswordsThatWaitTooLong(t *testing.T) {
 // TestBrokenConnectionsLeaveNothing breaks 1,000 connections off in and after requests.
 func TestBrokenConnectionsLeaveNothing(t *testing.T) {
 	address := served(t)
-	time.Sleep(50 * time.Millisecond)
-	before := runtime.NumGoroutine()
+	answer, err := http.Get("http://" + address + "/healthz")
+	if err != nil {
+		t.Fatal(err)
+	}
+	answer.Body.Close()
+	http.DefaultClient.CloseIdleConnections()
+	before := await.Goroutines()
 	requests := []string{"", "GET /heal", "GET /healthz HTTP/1.1\r\nHost: a\r\n\r\n", "GET /healthz HTTP/1.1\r\nHost: a\r\n\r\nGET /healthz HTT",
 		"POST /a/HEAD HTTP/1.1\r\nHost: a\r\nContent-Length: 100000\r\n\r\nhalf", "POST /a/HEAD HTTP/1.1\r\nHost: a\r\nTransfer-Encoding: chunked\r\n\r\n5\r\nab"}
 	for at := 0; at < 1000; at++ {
@@ -110,10 +115,5 @@ func TestBrokenConnectionsLeaveNothing(t *testing.T) {
 		_, _ = io.WriteString(c, requests[at%len(requests)])
 		c.Close()
 	}
-	for until := time.Now().Add(20 * time.Second); runtime.NumGoroutine() > before; time.Sleep(10 * time.Millisecond) {
-		if time.Now().After(until) {
-			text := make([]byte, 1<<20)
-			t.Fatalf("%d goroutines are left:\n%s", runtime.NumGoroutine()-before, text[:runtime.Stack(text, true)])
-		}
-	}
+	await.NoMore(t, before)
 }

@@ -26,18 +26,25 @@ func (e *exchange) page(place pages.Place) {
 		return
 	}
 	e.finish()
-	v := pages.Visit{Place: place, Query: e.r.URL.Query(), Now: time.Now(), Markdown: e.Markdown, Network: access.Network(e.record.Address)}
+	v := pages.Visit{Place: place, Query: e.r.URL.Query(), Now: time.Now(), Markdown: e.Markdown, Highlight: e.Highlight,
+		Network: access.Network(e.record.Address), IsIndexed: e.Limits.Get().IsIndexed, Origin: e.origin()}
 	unescaped, _ := url.PathUnescape(place.URL())
 	switch {
 	case place.Kind == pages.Style || place.Kind == pages.Icon:
 		e.send(pages.Static(place.Kind))
-		return
+	case place.Kind == pages.Robots:
+		e.send(v.Robots())
 	case unescaped != e.r.URL.Path:
 		// It says nothing of whether there is such a tenant.
 		e.send(pages.Answer{Status: http.StatusFound, Location: place.URL()})
-		return
+	default:
+		e.enter(v)
 	}
-	e.record.Tenant = place.Tenant
+}
+
+// enter finds out who asks for a page, and whether it is their turn.
+func (e *exchange) enter(v pages.Visit) {
+	e.record.Tenant = v.Place.Tenant
 	user, err := e.login()
 	if err == access.ErrBusy {
 		e.send(v.Refusal(http.StatusServiceUnavailable, "The server is busy", "Please try again in a moment."))
@@ -55,14 +62,14 @@ func (e *exchange) page(place pages.Place) {
 		return
 	}
 	defer leave()
-	_, end := e.Watch(e.r.Context(), user, place.Tenant, access.Read, func(error) { stop(e.r) })
+	_, end := e.Watch(e.r.Context(), user, v.Place.Tenant, access.Read, func(error) { stop(e.r) })
 	defer end()
 	e.visit(v)
 }
 
 // visit lets a user in, or says that there is no such repository.
 func (e *exchange) visit(v pages.Visit) {
-	if v.Place.Kind == pages.Tenants {
+	if v.Place.Kind == pages.Tenants || v.Place.Kind == pages.Sitemap {
 		if err := e.Access.Blocked(v.User, "", access.Read); err != nil {
 			e.send(v.Refusal(http.StatusForbidden, "Blocked", err.Error()))
 			return
@@ -90,16 +97,25 @@ func (e *exchange) visit(v pages.Visit) {
 	}
 	v.Repository = t
 	v.CloneHTTP, v.CloneSSH = e.cloneURLs(v.User, v.Place.Tenant)
-	e.sendCounted(v, v.Answer(e.r.Context()))
+	v.Description = e.Catalogue.Description(v.Place.Tenant)
+	answer := v.Answer(e.r.Context())
+	if answer.End != nil {
+		defer answer.End()
+	}
+	e.sendCounted(v, answer)
+}
+
+// taker is under which name the answers that a user has not taken yet are counted.
+func (e *exchange) taker(user string) string {
+	if user == "" {
+		return "visitor " + access.Network(e.record.Address)
+	}
+	return user
 }
 
 // sendCounted sends an answer, which counts among those that wait until a user takes them: a file may be large, and its taker slow.
 func (e *exchange) sendCounted(v pages.Visit, a pages.Answer) {
-	who := v.User
-	if who == "" {
-		who = "visitor " + access.Network(e.record.Address)
-	}
-	taken, err := e.Limits.Wait(who, len(a.Body))
+	taken, err := e.Limits.Wait(e.taker(v.User), len(a.Body))
 	if err == limits.ErrAnswer {
 		e.send(v.Refusal(http.StatusTooManyRequests, "Too large", err.Error()+"; clone the repository instead."))
 		return
@@ -115,13 +131,15 @@ func (e *exchange) sendCounted(v pages.Visit, a pages.Answer) {
 
 // listed are the tenants that a user may see and that have something.
 func (e *exchange) listed(user string) (all []pages.Listed) {
+	said := e.Catalogue.Descriptions()
 	for _, name := range e.Pool.Names() {
 		right := e.Access.Right(user, name)
 		if right == access.None {
 			continue
 		}
 		if t, err := e.Pool.Tenant(name); err == nil {
-			all = append(all, pages.Listed{Name: name, CanPush: right >= access.Write, Repository: t})
+			all = append(all, pages.Listed{Name: name, Description: said[name], Pushed: e.Catalogue.Pushed(name), CanPush: right >= access.Write,
+				Repository: t})
 		}
 	}
 	return all
@@ -149,18 +167,26 @@ func (e *exchange) signIn(v pages.Visit, to string) {
 
 var hostForm = regexp.MustCompile(`^(?:[A-Za-z0-9.-]{1,253}|\[[0-9A-Fa-f:.]{2,45}\])(?::[0-9]{1,5})?$`)
 
+// origin is the front of the URLs of this server, by the name under which the browser found it; "" where that is none.
+func (e *exchange) origin() string {
+	switch {
+	case !hostForm.MatchString(e.r.Host):
+		return ""
+	case isTLS(e.r) || strings.EqualFold(e.r.Header.Get("X-Forwarded-Proto"), "https"):
+		return "https://" + e.r.Host
+	}
+	return "http://" + e.r.Host
+}
+
 // cloneURLs are what git takes, by the name under which the browser found the server.
 func (e *exchange) cloneURLs(user, tenant string) (overHTTP, overSSH string) {
 	host, who := e.r.Host, ""
-	if !hostForm.MatchString(host) {
+	scheme, _, isKnown := strings.Cut(e.origin(), "://")
+	if !isKnown {
 		return "", ""
 	}
 	if user != "" {
 		who = user + "@"
-	}
-	scheme := "http"
-	if isTLS(e.r) || strings.EqualFold(e.r.Header.Get("X-Forwarded-Proto"), "https") {
-		scheme = "https"
 	}
 	overHTTP = fmt.Sprintf("%s://%s%s/%s.git", scheme, who, host, tenant)
 	if e.SSHPort != 0 && user != "" {
@@ -173,8 +199,8 @@ func (e *exchange) cloneURLs(user, tenant string) (overHTTP, overSSH string) {
 	return overHTTP, overSSH
 }
 
-// What a browser may do with an answer: a page may use the server's own style and icon, and that of an account send forms to the server; anything else
-// may do nothing.
+// What a browser may do with an answer: a page may use the server's own style and icon, and show pictures that the server sends as such; that of an
+// account, of a search and the list of repositories may send forms to the server; anything else may do nothing.
 const (
 	pagePolicy = "default-src 'none'; style-src 'self'; img-src 'self'; base-uri 'none'; form-action 'none'; frame-ancestors 'none'"
 	formPolicy = "default-src 'none'; style-src 'self'; img-src 'self'; base-uri 'none'; form-action 'self'; frame-ancestors 'none'"
@@ -191,6 +217,9 @@ func setPolicies(h http.Header, a pages.Answer) {
 	h.Set("Vary", "Authorization")
 	if a.IsPage {
 		h.Set("Content-Security-Policy", pagePolicy)
+	}
+	if a.Asks {
+		h.Set("Content-Security-Policy", formPolicy)
 	}
 	if a.HasForms {
 		// A browser says where a form comes from only where it may say where a link comes from.

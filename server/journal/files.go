@@ -25,7 +25,12 @@ type Files struct {
 	syncing  bool
 	broken   error
 	losses   uint64
+	// buffer is where records are put together before they are written.
+	buffer []byte
 }
+
+// mostBuffered is how large a buffer is kept for the next records.
+const mostBuffered = 1 << 20
 
 // Append writes steps behind one another, and gives the number of the last one. They last from Sync on. On ErrFull or ErrBroken
 // nothing is written.
@@ -38,13 +43,12 @@ func (j *Files) Append(steps ...frames.Step) (uint64, error) {
 	if j.broken != nil {
 		return 0, j.broken
 	}
-	at, size := j.appended, 0
-	for _, step := range steps {
-		size += headBytes + step.Size() + chainBytes
-	}
-	bytes := make([]byte, 0, size)
+	at, bytes := j.appended, j.buffer[:0]
 	for _, step := range steps {
 		bytes = appendRecord(bytes, &at, step)
+	}
+	if cap(bytes) <= mostBuffered {
+		j.buffer = bytes
 	}
 	faultpoint.Here("before a record is written")
 	if err := j.write(bytes); err != nil {

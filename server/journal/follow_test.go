@@ -10,6 +10,7 @@ import (
 	"testing"
 	"time"
 
+	"gitpoold/await"
 	"gitpoold/redistest"
 )
 
@@ -46,7 +47,7 @@ func follows(t testing.TB, o Options) *followed {
 
 // takes takes what comes until the record of a number is there, or an error.
 func (f *followed) takes(number uint64) error {
-	for until := time.Now().Add(20 * time.Second); f.Number() < number; {
+	for until := time.Now().Add(await.Longest); f.Number() < number; {
 		entries, err := f.Read()
 		if err != nil && !errors.Is(err, ErrUnread) || time.Now().After(until) || f.isClosed() {
 			return fmt.Errorf("record %d does not come: %v", number, err)
@@ -295,6 +296,16 @@ func takenByOne(t testing.TB, all []*followed) *followed {
 	return <-won
 }
 
+// longestSilence looks at a server for a while.
+func longestSilence(f *followed, while time.Duration) (most time.Duration) {
+	for until := time.Now().Add(while); time.Now().Before(until); time.Sleep(50 * time.Millisecond) {
+		if now := f.Silence(); now > most {
+			most = now
+		}
+	}
+	return most
+}
+
 // TestSignsOfLife has a server that writes nothing, one that is closed, and a Redis that is away.
 func TestSignsOfLife(t *testing.T) {
 	t.Parallel()
@@ -305,32 +316,20 @@ func TestSignsOfLife(t *testing.T) {
 	if err := f.takes(j.Number()); err != nil {
 		t.Fatal(err)
 	}
-	most := time.Duration(0)
-	for until := time.Now().Add(3500 * time.Millisecond); time.Now().Before(until); time.Sleep(50 * time.Millisecond) {
-		if f.Silence() > most {
-			most = f.Silence()
-		}
-	}
-	if most > 2500*time.Millisecond {
+	// A server that lives writes something each second, or some seconds later on a busy machine.
+	const silence = 8 * time.Second
+	if most := longestSilence(f, silence+2*time.Second); most > silence {
 		t.Fatalf("a server that lives was silent for %v", most)
 	}
 	j.Close()
-	if err := f.TakeOver(pools[0], 1500*time.Millisecond); err != ErrNotAtEnd {
+	if err := f.TakeOver(pools[0], silence); err != ErrNotAtEnd {
 		t.Fatal(err)
 	}
-	for until := time.Now().Add(20 * time.Second); f.Silence() < 1500*time.Millisecond; time.Sleep(50 * time.Millisecond) {
-		if time.Now().After(until) {
-			t.Fatal("a server that is gone is not silent")
-		}
-	}
+	await.Until(t, "the silence of a server that is gone", func() bool { return f.Silence() >= silence })
 	server.Kill()
-	for until := time.Now().Add(20 * time.Second); f.Silence() != 0; time.Sleep(50 * time.Millisecond) {
-		if time.Now().After(until) {
-			t.Fatal("a Redis that is away says that its server is silent")
-		}
-	}
+	await.Until(t, "a Redis that is away, which says of no server that it is silent", func() bool { return f.Silence() == 0 })
 	server.Restart()
-	if _, err := f.Fresh(background); err != nil || f.Silence() > 1500*time.Millisecond {
+	if _, err := f.Fresh(background); err != nil || f.Silence() > silence {
 		t.Fatal(err, f.Silence())
 	}
 }
@@ -370,7 +369,9 @@ func losesRecords(t *testing.T, does func(server *redistest.Server, o Options, j
 	o := options(t, server)
 	j := created(t, o)
 	appendAll(t, j, 0, 5)
-	f := follows(t, o)
+	impatient := o
+	impatient.Wait = 2 * time.Second
+	f := follows(t, impatient)
 	f.has(t, j)
 	j.Close()
 	does(server, o, j)
@@ -406,6 +407,7 @@ func TestARedisThatWasReplaced(t *testing.T) {
 	server, other := redistest.Start(t), redistest.Start(t)
 	o := options(t, server)
 	j := created(t, o)
+	o.Wait = 2 * time.Second
 	f := follows(t, o)
 	if err := f.takes(j.Number()); err != nil {
 		t.Fatal(err)

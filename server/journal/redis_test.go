@@ -13,6 +13,7 @@ import (
 
 	"github.com/gomodule/redigo/redis"
 
+	"gitpoold/await"
 	"gitpoold/frames"
 	"gitpoold/redistest"
 )
@@ -31,7 +32,7 @@ func options(t testing.TB, server *redistest.Server) Options {
 	if err != nil {
 		t.Fatal(err)
 	}
-	return Options{Address: address, Wait: 2 * time.Second, Place: filepath.Join(t.TempDir(), "log-place"), Tell: quiet}
+	return Options{Address: address, Wait: 20 * time.Second, Place: filepath.Join(t.TempDir(), "log-place"), Tell: quiet}
 }
 
 func openRedis(o Options, pool Digest) (*watched, error) {
@@ -116,7 +117,7 @@ func isLost(t testing.TB, w *watched, says string, isTaken bool) {
 		if !errors.As(err, &bad) || bad.IsTaken != isTaken || !strings.Contains(err.Error(), says) {
 			t.Fatalf("it is lost by %v", err)
 		}
-	case <-time.After(20 * time.Second):
+	case <-time.After(await.Longest):
 		t.Fatal("the journal has noticed nothing")
 	}
 }
@@ -128,7 +129,7 @@ func isStale(t testing.TB, w *watched) {
 	case <-w.stale:
 	case err := <-w.lost:
 		t.Fatal(err)
-	case <-time.After(20 * time.Second):
+	case <-time.After(await.Longest):
 		t.Fatal("the journal takes no records")
 	}
 }
@@ -370,9 +371,16 @@ func TestASecondServerTakesTheLogOver(t *testing.T) {
 	server := redistest.Start(t)
 	first := created(t, options(t, server))
 	appendAll(t, first, 0, 10)
+	// The first one is told a step before it looks at the log again.
+	first.line.Lock()
 	second := openedRedis(t, options(t, server), pools[0])
 	hasNumbers(t, second, pools[0], 0, 10)
-	if err := append1(first, 10); err != ErrUnsure {
+	number, err := first.Append(numbered(10))
+	first.line.Unlock()
+	if err == nil {
+		err = first.Sync(number)
+	}
+	if err != ErrUnsure {
 		t.Fatalf("the first server appends still: %v", err)
 	}
 	isLost(t, first, "another server has taken the log over", true)
@@ -409,7 +417,7 @@ func TestAServerIsCutOffWhileAnotherOneSaves(t *testing.T) {
 		if !errors.As(err, &bad) || !bad.IsTaken || !bad.IsLoss() || !strings.Contains(err.Error(), "another server has taken the log over") {
 			t.Fatal(err)
 		}
-	case <-time.After(20 * time.Second):
+	case <-time.After(await.Longest):
 		t.Fatal("the journal has noticed nothing")
 	}
 }
@@ -421,7 +429,7 @@ func TestALeaderThatWaitsForReplicasLives(t *testing.T) {
 	host, port, _ := strings.Cut(primary.Host(), ":")
 	replica := redistest.Start(t, "--replicaof", host+" "+port)
 	o := options(t, primary)
-	o.Replicas, o.Wait = 1, 30*time.Second
+	o.Replicas, o.Wait = 1, await.Longest
 	j := created(t, o)
 	appendAll(t, j, 0, 3)
 	f := follows(t, options(t, primary))
@@ -429,15 +437,11 @@ func TestALeaderThatWaitsForReplicasLives(t *testing.T) {
 		t.Fatal(err)
 	}
 	replica.Signal(syscall.SIGSTOP)
-	result, most := make(chan error, 1), time.Duration(0)
+	result := make(chan error, 1)
 	go func() { result <- append1(j, 3) }()
-	for until := time.Now().Add(5 * time.Second); time.Now().Before(until); time.Sleep(50 * time.Millisecond) {
-		if f.Silence() > most {
-			most = f.Silence()
-		}
-	}
+	most := longestSilence(f, 12*time.Second)
 	replica.Signal(syscall.SIGCONT)
-	if err := <-result; err != nil || most > 3*time.Second {
+	if err := <-result; err != nil || most > 8*time.Second {
 		t.Fatalf("a server that waits for replicas was silent for %v: %v", most, err)
 	}
 }
@@ -451,18 +455,20 @@ func TestAppendsOfTwoServers(t *testing.T) {
 	for turn := 0; turn < 5; turn++ {
 		var all sync.WaitGroup
 		all.Add(1)
+		isTold := make(chan struct{}, 1)
 		go func(j *watched) {
 			defer all.Done()
 			for i := 0; append1(j, 100*turn+i) == nil; i++ {
 				told = append(told, fmt.Sprint(100*turn+i))
+				if i == 0 {
+					isTold <- struct{}{}
+				}
 			}
 		}(j)
+		await.From(t, "a step that is told", isTold)
 		time.Sleep(20 * time.Millisecond)
 		j = openedRedis(t, options(t, server), pools[0])
 		all.Wait()
-	}
-	if len(told) == 0 {
-		t.Fatal("nothing was told")
 	}
 	isPart(t, j, told)
 }
@@ -596,7 +602,7 @@ func TestAKilledRedisIsWaitedFor(t *testing.T) {
 	t.Parallel()
 	server := redistest.Start(t)
 	o := options(t, server)
-	o.Wait = 20 * time.Second
+	o.Wait = await.Longest
 	j := created(t, o)
 	over := make(chan struct{})
 	var all sync.WaitGroup
@@ -633,7 +639,7 @@ func TestASilentRedis(t *testing.T) {
 	t.Parallel()
 	server := redistest.Start(t)
 	o := options(t, server)
-	o.Wait = time.Second
+	o.Wait = 3 * time.Second
 	j := created(t, o)
 	appendAll(t, j, 0, 3)
 	server.Signal(syscall.SIGSTOP)
@@ -666,7 +672,7 @@ func TestARedisThatDiesWithARecord(t *testing.T) {
 	t.Parallel()
 	server := redistest.Start(t)
 	o := options(t, server)
-	o.Wait = time.Second
+	o.Wait = 3 * time.Second
 	j := created(t, o)
 	appendAll(t, j, 0, 3)
 	server.Signal(syscall.SIGSTOP)
@@ -710,7 +716,7 @@ func TestAFullDiskUnderRedis(t *testing.T) {
 	t.Parallel()
 	server := redistest.Start(t)
 	o := options(t, server)
-	o.Wait = 20 * time.Second
+	o.Wait = await.Longest
 	j := created(t, o)
 	appendAll(t, j, 0, 3)
 	server.LimitFiles(server.LogBytes() + 100)
@@ -754,7 +760,7 @@ func TestReplicas(t *testing.T) {
 	host, port, _ := strings.Cut(server.Host(), ":")
 	replica := redistest.Start(t, "--replicaof", host+" "+port)
 	o := options(t, server)
-	o.Replicas, o.Wait = 1, 30*time.Second
+	o.Replicas, o.Wait = 1, await.Longest
 	j := created(t, o)
 	appendAll(t, j, 0, 3)
 	replica.Signal(syscall.SIGSTOP)
@@ -791,12 +797,12 @@ func TestAStartWaitsForReplicas(t *testing.T) {
 	if err := CreateRedis(o, pools[0]); err != nil {
 		t.Fatal(err)
 	}
-	o.Wait, o.Replicas = 2*time.Second, 1
+	o.Wait, o.Replicas = 6*time.Second, 1
 	replica.Kill()
-	time.AfterFunc(4*time.Second, replica.Restart)
+	time.AfterFunc(10*time.Second, replica.Restart)
 	began := time.Now()
 	j := openedRedis(t, o, pools[0])
-	if took := time.Since(began); took < 3*time.Second {
+	if took := time.Since(began); took < 9*time.Second {
 		t.Fatalf("the start did not wait: %v", took)
 	}
 	// A record for each connection: on a busy machine one may break.
@@ -879,18 +885,14 @@ func TestSentinel(t *testing.T) {
 	if o.Address, err = ParseAddress("sentinel://"+sentinel.Host()+"/main/site", ""); err != nil {
 		t.Fatal(err)
 	}
-	o.Wait = 40 * time.Second
+	o.Wait = await.Longest
 	j := created(t, o)
 	appendAll(t, j, 0, 5)
 	isThere := func() bool {
 		count, err := redis.Int(replica.Do("XLEN", "site"), nil)
 		return err == nil && count == 7 && len(sentinel.Do("SENTINEL", "REPLICAS", "main").([]any)) == 1
 	}
-	for until := time.Now().Add(30 * time.Second); !isThere(); time.Sleep(50 * time.Millisecond) {
-		if time.Now().After(until) {
-			t.Fatal("the replica is not there")
-		}
-	}
+	await.Until(t, "a replica", isThere)
 	f := follows(t, o)
 	primary.Kill()
 	appendAll(t, j, 5, 8)
@@ -908,6 +910,8 @@ func TestSentinel(t *testing.T) {
 
 func TestEveryRecordInRedisCanBeReadBack(t *testing.T) {
 	o := options(t, redistest.Start(t))
+	// Each answer of Redis is waited for a third of that: it takes and gives a hundred megabytes and more.
+	o.Wait = 5 * await.Longest
 	j := created(t, o)
 	takesWhatItReads(t, j)
 	hasLargest(t, j, pools[0])

@@ -280,22 +280,28 @@ type Values struct {
 	Connections, PerAddress, PerUser               int
 	Handshake, Idle, Request, Drain, Step, Hook    time.Duration
 	RequestBytes, Quota, JournalBytes, ChildMemory int64
-	SecondChild                                    int64
-	DailyBytes                                     int64
-	SaveEvery, FrameIdle, DailyChild               time.Duration
-	StreamBytes, AnswerBytes, LineBytes            int64
-	FetchBytes, SpoolBytes, DiskReserve            int64
-	StreamAge                                      time.Duration
-	StreamsByUser, StreamsByTenant                 int
-	Quotas, UserBytes                              map[string]int64
-	UserChild                                      map[string]time.Duration
-	OwnedBytes                                     int64
-	OwnedTenants                                   int
-	UserOwnedBytes                                 map[string]int64
-	UserOwnedTenants                               map[string]int
-	Mirror                                         time.Duration
-	MirrorBytes                                    int64
-	MirrorsAtOnce                                  int
+	// IsIndexed lets search engines list what everyone may read.
+	IsIndexed                           bool
+	SecondChild                         int64
+	DailyBytes                          int64
+	SaveEvery, FrameIdle, DailyChild    time.Duration
+	StreamBytes, AnswerBytes, LineBytes int64
+	FetchBytes, SpoolBytes, DiskReserve int64
+	StreamAge                           time.Duration
+	StreamsByUser, StreamsByTenant      int
+	Quotas, UserBytes                   map[string]int64
+	UserChild                           map[string]time.Duration
+	OwnedBytes                          int64
+	OwnedTenants                        int
+	UserOwnedBytes                      map[string]int64
+	UserOwnedTenants                    map[string]int
+	Mirror                              time.Duration
+	MirrorBytes                         int64
+	MirrorsAtOnce                       int
+	LFSBytes                            int64
+	// PublicURL is at which address users find the server over http, without a slash at its end; "" where nobody says it.
+	PublicURL string
+	PackCache int64
 	// Fsck has the rules by which objects are refused that could be kept.
 	Fsck fsck.Rules
 	// levels has the levels of single messages, which Fsck has at the end of a file, whatever their lines' order.

@@ -12,6 +12,7 @@ import (
 	"testing"
 	"time"
 
+	"gitpoold/await"
 	"gitpoold/daily"
 	"gitpoold/lists"
 )
@@ -120,7 +121,7 @@ func dialed(t *testing.T, address string) net.Conn {
 
 // isClosed tells whether the peer has closed a connection.
 func isClosed(conn net.Conn) bool {
-	conn.SetReadDeadline(time.Now().Add(20 * time.Second))
+	conn.SetReadDeadline(time.Now().Add(await.Longest))
 	_, err := conn.Read(make([]byte, 1))
 	return err != nil && !errors.Is(err, os.ErrDeadlineExceeded)
 }
@@ -140,9 +141,7 @@ func TestOneConnectionTooMany(t *testing.T) {
 		for i := 0; i < 2; i++ {
 			taken = append(taken, dialed(t, address))
 		}
-		for l.Connections() < 2 {
-			time.Sleep(time.Millisecond)
-		}
+		await.Until(t, "two connections", func() bool { return l.Connections() == 2 })
 		if !isClosed(dialed(t, address)) {
 			t.Error(lines, "a third connection is open")
 		}
@@ -178,7 +177,7 @@ func TestASilentPeerIsLeft(t *testing.T) {
 		t.Fatal(err)
 	}
 	began := time.Now()
-	if _, err := conn.Write(make([]byte, 64<<20)); !errors.Is(err, os.ErrDeadlineExceeded) || time.Since(began) > 20*time.Second {
+	if _, err := conn.Write(make([]byte, 64<<20)); !errors.Is(err, os.ErrDeadlineExceeded) || time.Since(began) > await.Longest {
 		t.Fatal("a peer that takes nothing:", err, time.Since(began))
 	}
 }
@@ -439,7 +438,7 @@ func carried(t *testing.T, from, to net.Conn, size int) {
 			}
 		}
 	}()
-	if err := to.SetDeadline(time.Now().Add(time.Minute)); err != nil {
+	if err := to.SetDeadline(time.Now().Add(await.Longest)); err != nil {
 		t.Fatal(err)
 	}
 	if _, err := io.ReadFull(to, make([]byte, size)); err != nil {

@@ -2,6 +2,7 @@ package limits
 
 import (
 	"fmt"
+	"net/url"
 	"sort"
 	"strconv"
 	"strings"
@@ -58,6 +59,19 @@ func span(into func(*Values) *time.Duration) func(*Values, string) error {
 	}
 }
 
+func setPublicURL(v *Values, word string) error {
+	v.PublicURL = ""
+	if word == "-" {
+		return nil
+	}
+	it, err := url.Parse(word)
+	if err != nil || it.Scheme != "https" && it.Scheme != "http" || it.Host == "" || it.User != nil || it.RawQuery != "" || it.Fragment != "" {
+		return fmt.Errorf("`%s` is no address such as https://git.example.org", word)
+	}
+	v.PublicURL = strings.TrimRight(it.String(), "/")
+	return nil
+}
+
 func spanOrNone(into func(*Values) *time.Duration) func(*Values, string) error {
 	return func(v *Values, word string) error {
 		if word == "0" {
@@ -95,6 +109,10 @@ var all = []limit{
 		count(func(v *Values) *int { return &v.MirrorsAtOnce })},
 	{"request-bytes", "1G", "the bytes that one request may bring",
 		bytes(func(v *Values) *int64 { return &v.RequestBytes })},
+	{"lfs-bytes", "1G", "the bytes of one file of Git LFS",
+		bytes(func(v *Values) *int64 { return &v.LFSBytes })},
+	{"public-url", "-", "the address at which users find the server over http, such as https://git.example.org; - is as its options say",
+		setPublicURL},
 	{"quota", "1G", "the bytes that a tenant may have; 0 is no limit",
 		bytes(func(v *Values) *int64 { return &v.Quota })},
 	{userBytesName, "4G", "the bytes that a user may have in all tenants that it made; 0 is no limit",
@@ -129,12 +147,22 @@ var all = []limit{
 		bytes(func(v *Values) *int64 { return &v.SpoolBytes })},
 	{"disk-reserve", "256M", "the bytes of the disk, at most a quarter of it, that pushes leave to the journal; 0 is none",
 		bytes(func(v *Values) *int64 { return &v.DiskReserve })},
+	{"pack-cache", "0", "the bytes of packs that git makes smaller for clones, kept beside the pool; 0 keeps none",
+		bytes(func(v *Values) *int64 { return &v.PackCache })},
 	{"frame-idle", "10m", "the time that a client of frames may be silent with a stream open",
 		span(func(v *Values) *time.Duration { return &v.FrameIdle })},
 	{fsckName, "hosting", "which objects are refused that git could keep: strict is as receive.fsckObjects of git, hosting lets in what old histories have, off all",
 		func(v *Values, word string) (err error) {
 			v.Fsck, err = fsck.Named(word)
 			return err
+		}},
+	{"indexing", "off", "whether search engines may list the repositories that everyone may read: on or off",
+		func(v *Values, word string) error {
+			v.IsIndexed = word == "on"
+			if word != "on" && word != "off" {
+				return fmt.Errorf("%s is neither on nor off", word)
+			}
+			return nil
 		}},
 	{"child-memory", "0", "the bytes of its own that the child may take, without the pool file that it maps; 0 is no limit",
 		bytes(func(v *Values) *int64 { return &v.ChildMemory })},

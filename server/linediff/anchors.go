@@ -6,10 +6,10 @@ import "sort"
 type anchor struct{ old, new int }
 
 // anchors gives the longest run of lines that stand once in each part and in one order in both.
-func (c *comparison) anchors(it change) []anchor {
+func (c *comparison) anchors(it Change) []anchor {
 	type places struct{ old, new, olds, news int }
 	found := map[string]*places{}
-	for at := it.oldFrom; at < it.oldTo; at++ {
+	for at := it.OldFrom; at < it.OldTo; at++ {
 		p := found[c.old[at]]
 		if p == nil {
 			p = &places{}
@@ -17,7 +17,7 @@ func (c *comparison) anchors(it change) []anchor {
 		}
 		p.old, p.olds = at, p.olds+1
 	}
-	for at := it.newFrom; at < it.newTo; at++ {
+	for at := it.NewFrom; at < it.NewTo; at++ {
 		if p := found[c.new[at]]; p != nil {
 			p.new, p.news = at, p.news+1
 		}

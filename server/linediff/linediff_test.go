@@ -12,7 +12,7 @@ import (
 // applied carries the hunks out on the old text; it fails where a line is not where its numbers say.
 func applied(t *testing.T, old, new string, hunks []Hunk) string {
 	t.Helper()
-	oldLines, newLines := split(old), split(new)
+	oldLines, newLines := Lines(old), Lines(new)
 	var text strings.Builder
 	at := 0
 	for _, hunk := range hunks {

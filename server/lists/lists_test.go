@@ -13,6 +13,8 @@ import (
 	"syscall"
 	"testing"
 	"time"
+
+	"gitpoold/await"
 )
 
 func TestChangesOfManyAreAllThere(t *testing.T) {
@@ -58,25 +60,26 @@ func TestAFileThatIsNotThereHasNoLines(t *testing.T) {
 
 func TestFollowedFilesAreReadWhenTheyChange(t *testing.T) {
 	path := filepath.Join(t.TempDir(), "list")
-	reads, told := 0, 0
+	var reads, told atomic.Int64
 	f, err := Follow(func() (string, error) {
-		reads++
+		reads.Add(1)
 		text, err := os.ReadFile(path)
-		if string(text) == "bad" {
+		if string(text) == "a bad one" {
 			err = errors.New("bad")
 		}
 		return string(text), err
-	}, func(string, ...any) { told++ }, path)
+	}, func(string, ...any) { told.Add(1) }, path)
 	if err == nil {
 		t.Fatal("the file is not there")
 	}
 	os.WriteFile(path, []byte("one"), 0o600)
-	if f.Get() != "one" || f.Get() != "one" || reads != 2 {
-		t.Fatal(f.Get(), reads)
+	if f.Get() != "one" || f.Get() != "one" || reads.Load() != 2 {
+		t.Fatal(f.Get(), reads.Load())
 	}
-	os.WriteFile(path, []byte("bad"), 0o600)
-	if f.Get() != "one" || told != 1 || f.Get() != "one" || reads != 3 {
-		t.Fatal(f.Get(), reads, told)
+	// The clock of a file system may be coarse: a change within its tick is seen by the length.
+	os.WriteFile(path, []byte("a bad one"), 0o600)
+	if f.Get() != "one" || told.Load() != 1 || f.Get() != "one" || reads.Load() != 3 {
+		t.Fatal(f.Get(), reads.Load(), told.Load())
 	}
 }
 
@@ -84,28 +87,27 @@ func TestFollowedFilesAreReadWhenTheyChange(t *testing.T) {
 func TestFilesThatCannotBeReadAreReadLater(t *testing.T) {
 	path := filepath.Join(t.TempDir(), "access")
 	os.WriteFile(path, []byte("granted"), 0o600)
-	isFull, told := false, 0
+	var isFull atomic.Bool
+	var told atomic.Int64
 	f, err := Follow(func() (string, error) {
-		if isFull {
+		if isFull.Load() {
 			return "", &fs.PathError{Op: "open", Path: path, Err: syscall.EMFILE}
 		}
 		text, err := os.ReadFile(path)
 		return string(text), err
-	}, func(string, ...any) { told++ }, path)
+	}, func(string, ...any) { told.Add(1) }, path)
 	if err != nil {
 		t.Fatal(err)
 	}
-	isFull = true
+	isFull.Store(true)
 	os.WriteFile(path, []byte("taken back"), 0o600)
-	if f.Get() != "granted" || f.Get() != "granted" || told != 1 {
-		t.Fatalf("%q, told %d times", f.Get(), told)
+	began := time.Now()
+	// They are tried again after a second, and a slow machine may take as long for two looks.
+	if f.Get() != "granted" || f.Get() != "granted" || told.Load() < 1 || told.Load() > 1 && time.Since(began) < tryAgainAfter {
+		t.Fatalf("%q, told %d times", f.Get(), told.Load())
 	}
-	isFull = false
-	for until := time.Now().Add(20 * time.Second); f.Get() != "taken back"; time.Sleep(20 * time.Millisecond) {
-		if time.Now().After(until) {
-			t.Fatalf("%q", f.Get())
-		}
-	}
+	isFull.Store(false)
+	await.Until(t, "what was taken back", func() bool { return f.Get() == "taken back" })
 }
 
 // hung lets the file system not answer, until it is released.
@@ -155,11 +157,7 @@ func TestAFileSystemThatDoesNotAnswer(t *testing.T) {
 		t.Fatalf("asked %d times, by %d goroutines", asked.Load(), runtime.NumGoroutine()-before)
 	}
 	release()
-	for until := time.Now().Add(20 * time.Second); f.Get() != "another"; time.Sleep(time.Millisecond) {
-		if time.Now().After(until) {
-			t.Fatal(f.Get())
-		}
-	}
+	await.Until(t, "what has changed meanwhile", func() bool { return f.Get() == "another" })
 }
 
 // TestManyShareOneLook has many that ask at once, each after a change of its own: each sees that change.
@@ -168,6 +166,8 @@ func TestManyShareOneLook(t *testing.T) {
 	if err := Change(path, func([]string) ([]string, error) { return nil, nil }); err != nil {
 		t.Fatal(err)
 	}
+	defer func(was time.Duration) { patience = was }(patience)
+	patience = await.Longest
 	f, err := Follow(func() ([][]string, error) { return Read(path) }, t.Logf, path)
 	if err != nil {
 		t.Fatal(err)

@@ -8,8 +8,8 @@ import (
 
 var (
 	tags   = regexp.MustCompile(`<[^>]*>`)
-	usual  = regexp.MustCompile(`^<(?:!-- raw HTML omitted --|/?(?:h[1-6]|p|em|strong|del|code|pre|blockquote|ul|ol|li|hr|br|a|table|thead|tbody|tr|th|td)(?: (?:id|href|title|class|start|align|style|rel)="[^"<>]*")*(?: /)?)>$`)
-	follow = regexp.MustCompile(`href="([^"]*)"`)
+	usual  = regexp.MustCompile(`^<(?:!-- raw HTML omitted --|/?(?:h[1-6]|p|em|strong|del|code|pre|blockquote|ul|ol|li|hr|br|a|img|table|thead|tbody|tr|th|td)(?: (?:id|href|src|alt|title|class|start|align|style|rel)="[^"<>]*")*(?: /)?)>$`)
+	follow = regexp.MustCompile(`(?:href|src)="([^"]*)"`)
 )
 
 // FuzzHTML asks that a README comes to elements of text alone, and that links lead to the repository, to the web or nowhere.
@@ -17,6 +17,7 @@ func FuzzHTML(f *testing.F) {
 	f.Add([]byte("# Head\n\n- [a](b \"c\")\n- ![x](y)\n\n| a | b |\n|---|:-:|\n| c | ~~d~~ |\n"))
 	f.Add([]byte("<script>alert(1)</script> [a](javascript:alert(1))\n"))
 	f.Add([]byte("a <https://x/> <a@b.org> <mailto:a@b> <javascript:alert(1)> <data:text/html,x> <JavaScript:x>\n"))
+	f.Add([]byte("![a](b.png) [![c](d.gif \"t\")](http://e/) ![f](//g/h.png) ![i](data:x.png) ![\"<](<\" onerror=x.png>)\n"))
 	f.Add([]byte("[a]: javascript:x\n[a] [b][a] `<i>`\n\n```\n</code>\n```\n"))
 	f.Add([]byte("[x](&#106;avascript:y) [y](//z/w) [z](\x00) [w](http:\\\\x)\n3. a\n\n   b\n"))
 	f.Fuzz(func(t *testing.T, contents []byte) {

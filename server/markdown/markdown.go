@@ -6,6 +6,7 @@ import (
 	"bytes"
 	"errors"
 	"net/url"
+	"path"
 	"strconv"
 	"strings"
 
@@ -59,7 +60,8 @@ func (b *bounded) Write(text []byte) (int, error) {
 	return b.Buffer.Write(text)
 }
 
-// HTML writes Markdown as HTML. HTML in it is left out, and images become links. `resolve` gives where a link to a path and a fragment
+// HTML writes Markdown as HTML. HTML in it is left out, and images become links, unless they
+// are pictures of the repository. `resolve` gives where a link to a path and a fragment
 // leads that names no other site; "" is nowhere. Links to the web stay, those to headings lead to headings, and any others lead
 // nowhere. It gives "" where the text is long, or is not soon read.
 func HTML(contents []byte, resolve func(path, fragment string, isImage bool) string) (string, error) {
@@ -152,8 +154,21 @@ func (w rewriter) unlink(link *ast.AutoLink, source []byte) {
 	link.Parent().ReplaceChild(link.Parent(), link, ast.NewString(link.Label(source)))
 }
 
-// unimage puts a link to an image in its place; within a link only its words.
+// pictures are the ends of the names of pictures that stand in a page.
+var pictures = map[string]bool{".png": true, ".jpg": true, ".jpeg": true, ".gif": true, ".webp": true}
+
+// isOwn tells whether an image is a picture of the repository.
+func isOwn(image *ast.Image) bool {
+	u, err := url.Parse(string(image.Destination))
+	return err == nil && u.Scheme == "" && u.Host == "" && u.Opaque == "" && u.RawQuery == "" && pictures[strings.ToLower(path.Ext(u.Path))]
+}
+
+// unimage puts a link to an image in its place; within a link only its words. A picture of the repository stays.
 func (w rewriter) unimage(image *ast.Image) {
+	if to := w.target(string(image.Destination), true); isOwn(image) && to != "" {
+		image.Destination = []byte(to)
+		return
+	}
 	var into ast.Node = ast.NewEmphasis(1)
 	isLinked := false
 	for n := image.Parent(); n != nil; n = n.Parent() {

@@ -67,3 +67,24 @@ func spent() time.Duration {
 	}
 	return time.Duration(used.Utime.Nano() + used.Stime.Nano())
 }
+
+func TestPicturesOfTheRepositoryStay(t *testing.T) {
+	resolve := func(path, _ string, isImage bool) string {
+		return map[bool]string{true: "/r/" + path, false: "/x"}[isImage]
+	}
+	for text, want := range map[string]string{
+		"![a](b.png)":                       `<p><img src="/r/b.png" alt="a" /></p>`,
+		"[![a](b.GIF)](https://c.org/)":     `<p><a href="https://c.org/"><img src="/r/b.GIF" alt="a" /></a></p>`,
+		"![a](b.svg)":                       `<p><a href="/r/b.svg">a</a></p>`,
+		"![a](https://c.org/b.png)":         `<p><a href="https://c.org/b.png">a</a></p>`,
+		"![a](//c.org/b.png)":               `<p><a href="">a</a></p>`,
+		"![a](b.png?x)":                     `<p><a href="/r/b.png">a</a></p>`,
+		"![a](javascript:b.png)":            `<p><a href="">a</a></p>`,
+		"![\"><script>](b.png)":             `<p><img src="/r/b.png" alt="&quot;&gt;" /></p>`,
+		"![a](<b\".png> \"t\\\"<script>\")": `<p><img src="/r/b%22.png" alt="a" title="t&quot;&lt;script&gt;" /></p>`,
+	} {
+		if got, err := HTML([]byte(text), resolve); err != nil || strings.TrimSpace(got) != want {
+			t.Errorf("%s: %s %v", text, got, err)
+		}
+	}
+}

@@ -5,6 +5,8 @@ import (
 	"strings"
 	"testing"
 	"time"
+
+	"gitpoold/await"
 )
 
 // slow is a client that takes nothing until it is told to.
@@ -34,11 +36,7 @@ func TestACountWaitsForNoClient(t *testing.T) {
 		m.Text(&text)
 		close(ended)
 	}()
-	select {
-	case <-ended:
-	case <-time.After(10 * time.Second):
-		t.Fatal("a count waits for a client")
-	}
+	await.From(t, "a count, which waits for no client", ended)
 	for _, line := range []string{"# HELP a_total A.\n# TYPE a_total counter\na_total{kind=\"x\"} 3\n", "# TYPE b gauge\nb 7\n", "\nc_total 1\n"} {
 		if !strings.Contains(text.String(), line) {
 			t.Errorf("no %q in %q", line, text.String())

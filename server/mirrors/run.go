@@ -14,6 +14,7 @@ import (
 	"time"
 
 	"gitpoold/access"
+	"gitpoold/gitrun"
 	"gitpoold/pktline"
 	"gitpoold/services"
 	"gitpoold/tenants"
@@ -99,6 +100,7 @@ const (
 	mostRefs   = 65_536 // as many as a tenant may have
 	mostListed = 16 << 20
 	mostReport = 32 << 20
+	mostTidied = 8 << 10 // by gc, which is to say nothing
 )
 
 // pull lets the tenant be as the other host is.
@@ -381,7 +383,7 @@ func (r report) reason(ref, words string, failed error) string {
 	if r.isWhole && failed != nil {
 		words = failed.Error()
 	}
-	return visible(ref + ": " + words)
+	return gitrun.Visible(ref + ": " + words)
 }
 
 // and adds the report of a further push.
@@ -411,7 +413,7 @@ var mostPacks = 40
 func (r *run) pack(ctx context.Context) {
 	packs, _ := filepath.Glob(filepath.Join(r.path, "objects", "pack", "*.pack"))
 	if len(packs) > mostPacks {
-		_ = r.git(ctx, command{words: []string{"gc", "--quiet", "--prune=now"}, most: mostSaid})
+		_ = r.git(ctx, command{words: []string{"gc", "--quiet", "--prune=now"}, most: mostTidied})
 	}
 }
 

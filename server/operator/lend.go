@@ -37,7 +37,13 @@ func (d *Door) moment(ctx context.Context) (folder string, err error) {
 	}
 	soon, stop := context.WithTimeout(ctx, countWithin)
 	defer stop()
-	err = d.store.Still(soon, func() error { return backups.Take(d.site.Folder, folder) })
+	take := func() error { return backups.Take(d.site.Folder, folder) }
+	err = d.store.Still(soon, func() error {
+		if d.site.LFS == nil {
+			return take()
+		}
+		return d.site.LFS.Still(take)
+	})
 	if err != nil {
 		os.RemoveAll(folder)
 	}

@@ -10,6 +10,7 @@ import (
 	"io"
 	"net"
 	"os"
+	"sort"
 	"strconv"
 	"strings"
 	"sync"
@@ -202,6 +203,9 @@ func (d *Door) copy(ctx context.Context, words []string) (string, error) {
 }
 
 func (d *Door) remove(ctx context.Context, words []string) (string, error) {
+	if d.site.LFS != nil && tenants.ValidName(words[1]) && d.site.LFS.Has(words[1]) {
+		return "", d.removeTenant(ctx, words[1])
+	}
 	return "", d.ofKnown(words[1], func() error { return d.removeTenant(ctx, words[1]) })
 }
 
@@ -214,7 +218,10 @@ func (d *Door) move(ctx context.Context, words []string) (string, error) {
 	if err != nil {
 		return "", fmt.Errorf("%q is no number of a shard", words[2])
 	}
-	return "", d.operate(ctx, words, words[1:2], func() error { return d.store.Move(ctx, words[1], shard) })
+	return "", d.operate(ctx, words, words[1:2], func() error {
+		defer d.site.Packs.Forget(words[1])
+		return d.store.Move(ctx, words[1], shard)
+	})
 }
 
 // countWithin is how long the children have to say what tenants have. Where one saves for longer, the operator is told so.
@@ -258,14 +265,18 @@ func (d *Door) copyTenant(ctx context.Context, from, to string) error {
 		if err == nil && d.site.Owners != nil {
 			err = d.site.Owners.Put(to, d.site.Owners.Of(from))
 		}
+		if err == nil && d.site.LFS != nil {
+			err = d.site.LFS.Copy(from, to)
+		}
 		return err
 	}))
 }
 
 func (d *Door) removeTenant(ctx context.Context, name string) error {
 	return d.operate(ctx, []string{"remove", name}, []string{name}, d.alone(name, func() error {
-		err := d.store.Remove(ctx, name)
+		err := d.removeFiles(name, func() error { return d.store.Remove(ctx, name) })
 		d.site.Views.Forget(name)
+		d.site.Packs.Removed(name)
 		if err == nil && d.site.Owners != nil {
 			err = d.site.Owners.Forget(name)
 		}
@@ -273,8 +284,33 @@ func (d *Door) removeTenant(ctx context.Context, name string) error {
 	}))
 }
 
+// removeFiles removes a tenant from the pool by `remove`, and its large files after it. Where it is not known whether it was removed, nobody gets its
+// files until the next start knows, or until it is removed again.
+func (d *Door) removeFiles(name string, remove func() error) error {
+	if d.site.LFS == nil {
+		return remove()
+	}
+	if err := d.site.LFS.Leave(name); err != nil {
+		return err
+	}
+	err := remove()
+	var refused *store.Refused
+	switch {
+	case err == nil:
+		return d.site.LFS.Remove(name)
+	case errors.As(err, &refused):
+		if stays := d.site.LFS.Stay(name); stays != nil {
+			d.site.Log.Printf("%v", stays)
+		}
+	}
+	return err
+}
+
 func (d *Door) compactTenant(ctx context.Context, name string) error {
-	return d.operate(ctx, []string{"compact", name}, []string{name}, d.alone(name, func() error { return d.store.Compact(ctx, name) }))
+	return d.operate(ctx, []string{"compact", name}, []string{name}, d.alone(name, func() error {
+		defer d.site.Packs.Forget(name)
+		return d.store.Compact(ctx, name)
+	}))
 }
 
 // alone gives a call that does something to a tenant while no push is at work.
@@ -326,9 +362,12 @@ func (d *Door) tenants(ctx context.Context, _ []string) (string, error) {
 	if err := d.store.RecountAll(soon); err != nil {
 		return "", fmt.Errorf("what tenants have cannot be counted now: %w", err)
 	}
-	for _, it := range d.store.Usages() {
+	for _, it := range d.usages() {
 		fmt.Fprintf(&text, "%s objects %d refs %d bytes %d own %d since %d quota %d", it.Name, it.Objects, it.Refs, it.Bytes, it.Own,
 			it.Since, d.site.Limits.Quota(it.Name))
+		if d.site.LFS != nil && d.site.LFS.Bytes(it.Name) > 0 {
+			fmt.Fprintf(&text, " lfs %d", d.site.LFS.Bytes(it.Name))
+		}
 		if d.site.Owners != nil {
 			fmt.Fprintf(&text, " owner %s", d.site.Owners.Of(it.Name))
 		}
@@ -338,6 +377,21 @@ func (d *Door) tenants(ctx context.Context, _ []string) (string, error) {
 		text.WriteString("\n")
 	}
 	return text.String(), nil
+}
+
+// usages gives what each tenant has in the pool, which may be nothing beside its large files.
+func (d *Door) usages() []store.Usage {
+	all := d.store.Usages()
+	if d.site.LFS == nil {
+		return all
+	}
+	for _, name := range d.site.LFS.Names() {
+		if !d.store.Has(name) {
+			all = append(all, store.Usage{Name: name})
+		}
+	}
+	sort.Slice(all, func(i, k int) bool { return all[i].Name < all[k].Name })
+	return all
 }
 
 // status has a line for each number.
@@ -377,6 +431,7 @@ func (d *Door) status(context.Context, []string) (string, error) {
 	for _, err := range d.site.Unread() {
 		line("list-unread", err)
 	}
+	d.tellPacks(line)
 	d.tellHooks(line)
 	d.tellMirrors(line)
 	if len(states) > 1 {
@@ -391,6 +446,20 @@ func tellSaves(line func(name string, value any), state store.State) {
 	line("failed-saves", state.FailedSaves)
 	line("last-save", when(state.LastSave))
 	line("children-replaced", state.Recoveries)
+}
+
+// tellPacks tells of the packs for clones, if any are kept.
+func (d *Door) tellPacks(line func(name string, value any)) {
+	if s := d.site.Packs.State(); s.IsOn {
+		line("packs", s.Packs)
+		line("pack-bytes", s.Bytes)
+		line("pack-hits", s.Hits)
+		line("pack-near", s.Near)
+		line("pack-misses", s.Misses)
+		line("pack-sent-bytes", s.SentBytes)
+		line("packs-made", s.Made)
+		line("packs-failed", s.Failed)
+	}
 }
 
 // tellReplica has the lines of a server that follows another one.

@@ -11,12 +11,12 @@ import (
 	"os"
 	"os/exec"
 	"path/filepath"
-	"runtime"
 	"strings"
 	"testing"
 	"time"
 
 	"gitpoold/access"
+	"gitpoold/await"
 	"gitpoold/frames"
 	"gitpoold/limits"
 	"gitpoold/logs"
@@ -223,34 +223,32 @@ func TestWrongFramesCloseTheConnection(t *testing.T) {
 	}
 }
 
-// TestALostConnectionGivesItsStreamUp has a client that goes away, or falls silent, in the middle of a stream.
 // TestAHalfFrameIsNotWaitedFor begins frames and does not end them: the connections are closed after `idle`, and nothing of them is left. A client
 // that is silent between frames is left alone.
 func TestAHalfFrameIsNotWaitedFor(t *testing.T) {
 	folder := served(t, "idle 300ms\n")
 	silent, talking := dialed(t, folder), dialed(t, folder)
-	ask(t, talking, frames.Step{Kind: frames.Ask, Tenant: "a", Body: []byte("refs")})
-	before := runtime.NumGoroutine()
+	for _, conn := range []net.Conn{silent, talking} {
+		ask(t, conn, frames.Step{Kind: frames.Ask, Tenant: "a", Body: []byte("refs")})
+	}
+	before := await.Goroutines()
 	whole := frames.Step{Kind: frames.Ask, Tenant: "a", Body: []byte("refs")}.AppendTo(nil)
 	for _, half := range [][]byte{whole[:1], whole[:2], whole[:4], whole[:len(whole)-1], append(append([]byte(nil), whole...), 4)} {
 		conn := dialed(t, folder)
 		_, err := conn.Write(half)
 		must(t, err)
-		must(t, conn.SetReadDeadline(time.Now().Add(20*time.Second)))
+		must(t, conn.SetReadDeadline(time.Now().Add(await.Longest)))
 		if _, err := io.ReadAll(conn); err != nil {
 			t.Fatalf("%x: %v", half, err)
 		}
 	}
-	for until := time.Now().Add(20 * time.Second); runtime.NumGoroutine() > before; time.Sleep(10 * time.Millisecond) {
-		if time.Now().After(until) {
-			t.Fatal(runtime.NumGoroutine()-before, "goroutines are left")
-		}
-	}
+	await.NoMore(t, before)
 	for _, conn := range []net.Conn{silent, talking} {
 		ask(t, conn, frames.Step{Kind: frames.Ask, Tenant: "a", Body: []byte("refs")})
 	}
 }
 
+// TestALostConnectionGivesItsStreamUp has a client that goes away, or falls silent, in the middle of a stream.
 func TestALostConnectionGivesItsStreamUp(t *testing.T) {
 	folder := served(t, "frame-idle 200ms\n")
 	for _, silent := range []bool{false, true} {
@@ -398,21 +396,15 @@ func TestBrokenConnectionsLeaveNothing(t *testing.T) {
 		append(open[:len(open):len(open)], feed[:len(feed)-2]...), bytes.Repeat(question, 500), append(bytes.Repeat(question, 50), 99)}
 	_, err := Call(folder+"/socket", "status")
 	must(t, err)
-	time.Sleep(100 * time.Millisecond)
-	before := runtime.NumGoroutine()
+	before := await.Goroutines()
 	for at := 0; at < 1000; at++ {
 		conn, err := net.Dial("unix", folder+"/socket")
 		must(t, err)
 		_, _ = conn.Write(all[at%len(all)])
 		conn.Close()
 	}
-	left := func() int { return runtime.NumGoroutine() - before + together(door.store.States()).Streams }
-	for until := time.Now().Add(20 * time.Second); left() > 0; time.Sleep(10 * time.Millisecond) {
-		if time.Now().After(until) {
-			text := make([]byte, 1<<20)
-			t.Fatalf("%d goroutines and streams are left:\n%s", left(), text[:runtime.Stack(text, true)])
-		}
-	}
+	await.Until(t, "the end of all streams", func() bool { return together(door.store.States()).Streams == 0 })
+	await.NoMore(t, before)
 }
 
 func TestASocketThatIsAnsweredIsNotTaken(t *testing.T) {

@@ -8,6 +8,7 @@ import (
 	"testing"
 	"time"
 
+	"gitpoold/await"
 	"gitpoold/child"
 	"gitpoold/store"
 )
@@ -15,11 +16,12 @@ import (
 // TestMemoryIsToldByItsKind has the children of two shards, and a second child: what they have of their own and of files is added up apart.
 func TestMemoryIsToldByItsKind(t *testing.T) {
 	const some = 8 << 20
-	own := child.MemoryOf(os.Getpid())
-	all := memoryOf(store.State{ChildPid: os.Getpid(), SecondPid: os.Getpid()}, store.State{ChildPid: os.Getpid()}, store.State{})
-	if own.Anonymous == 0 || own.File == 0 || distance(all.Anonymous, 3*own.Anonymous) > some || distance(all.File, 3*own.File) > some {
-		t.Fatalf("%+v and %+v", own, all)
-	}
+	// This process may give memory back between two looks.
+	await.Until(t, "three times the memory of this process", func() bool {
+		own := child.MemoryOf(os.Getpid())
+		all := memoryOf(store.State{ChildPid: os.Getpid(), SecondPid: os.Getpid()}, store.State{ChildPid: os.Getpid()}, store.State{})
+		return own.Anonymous > 0 && own.File > 0 && distance(all.Anonymous, 3*own.Anonymous) <= some && distance(all.File, 3*own.File) <= some
+	})
 }
 
 func distance(one, other int64) int64 {
@@ -69,11 +71,7 @@ func TestStatusAndMetricsTellOfAChild(t *testing.T) {
 	if err := syscall.Kill(pid, syscall.SIGBUS); err != nil {
 		t.Fatal(err)
 	}
-	for until := time.Now().Add(20 * time.Second); call("children-replaced") != "1"; time.Sleep(time.Millisecond) {
-		if time.Now().After(until) {
-			t.Fatal("there is no other child")
-		}
-	}
+	await.Until(t, "another child", func() bool { return call("children-replaced") == "1" })
 	if got := call("child-ended"); !strings.Contains(got, "Z in shard 1: SIGBUS, for a page of its pool file is gone or cannot be read") {
 		t.Fatal(got)
 	}

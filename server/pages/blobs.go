@@ -20,11 +20,12 @@ const (
 	mostLines = 20000
 )
 
-// blobPage is a file as its page shows it; where it is not shown, Why says why.
+// blobPage is a file as its page shows it; where it is not shown, Why says why. Image is where it is a picture.
 type blobPage struct {
 	Name, Kind, Size, Count string
-	Raw, Commit             string
-	Lines                   []string
+	Raw, Image              string
+	Blame, History, Choose  string
+	Code                    *code
 	Why, Note               string
 	Latest                  *commitLine
 }
@@ -42,51 +43,54 @@ func (v Visit) blob(ctx context.Context) (Answer, error) {
 	default:
 		return Answer{}, browse.ErrKind
 	}
+	page := v.blobPage(f)
+	switch {
+	case isImage(f.object.Contents):
+		page.Image = page.Raw
+	case page.Why == "":
+		page.Code, page.Note = v.codeOf(ctx, string(f.object.Contents))
+		page.Count = several(page.Code.Count, "line", "lines")
+	}
+	if f.commit != nil && v.Place.Path != "" {
+		page.History = v.historyOf(v.Place, f.commit)
+		if page.Code != nil {
+			page.Blame = v.Place.At(Blame, v.Place.Revision, v.Place.Path).URL()
+		}
+	}
+	return v.page("blob", v.blobFrame(page.Name, f), page)
+}
+
+// blobFrame stands around a page about a file.
+func (v Visit) blobFrame(name string, f found) frame {
+	framed := frame{Title: fmt.Sprintf("%s: %s at %s", v.Place.Tenant, name, visible(shownRevision(v.Place.Revision))), Tab: Blob,
+		Revision: v.Place.Revision, Crumbs: v.pathCrumbs(), Permalink: v.permalink(f.commit)}
+	if framed.Permalink != "" {
+		framed.Permalink += linesOf(v.Query).query()
+	}
+	return framed
+}
+
+// blobPage is the page of a file without its lines.
+func (v Visit) blobPage(f found) *blobPage {
 	name := visible(v.Place.Path)
 	if name == "" {
 		name = visible(shownRevision(v.Place.Revision))
 	}
-	page := &blobPage{Name: name, Kind: rowOf(v.Place, f.entry).Kind, Size: size(len(f.object.Contents)),
-		Raw: v.Place.At(Raw, v.Place.Revision, v.Place.Path).URL(), Latest: v.lineOf(v.Place, f.commit)}
-	page.fill(f.object.Contents)
-	title := fmt.Sprintf("%s: %s at %s", v.Place.Tenant, name, visible(shownRevision(v.Place.Revision)))
-	return v.page("blob", frame{Title: title, Tab: Blob, Revision: v.Place.Revision, Crumbs: v.pathCrumbs()}, page)
+	return &blobPage{Name: name, Kind: rowOf(v.Place, f.entry).Kind, Size: size(len(f.object.Contents)), Why: whyNot(f.object.Contents),
+		Raw: v.Place.At(Raw, v.Place.Revision, v.Place.Path).URL(), Choose: v.Place.URL() + "?lines=choose", Latest: v.lineOf(v.Place, f.commit)}
 }
 
-// fill takes the lines, or says why they are not shown.
-func (p *blobPage) fill(contents []byte) {
+// whyNot says why the lines of a file are not shown, or nothing.
+func whyNot(contents []byte) string {
 	switch {
 	case len(contents) == 0:
-		p.Why = "The file is empty."
-		return
-	case isBinary(contents):
-		p.Why = "The file is binary, so it is not shown."
-		return
+		return "The file is empty."
+	case browse.IsBinary(contents):
+		return "The file is binary, so it is not shown."
 	case len(contents) > mostShown:
-		p.Why = "The file is large, so it is not shown."
-		return
+		return "The file is large, so it is not shown."
 	}
-	text := string(contents)
-	lines := strings.SplitAfter(text, "\n")
-	if lines[len(lines)-1] == "" {
-		lines = lines[:len(lines)-1]
-	} else {
-		p.Note = "The last line has no line end. "
-	}
-	p.Count = several(len(lines), "line", "lines")
-	if len(lines) > mostLines {
-		p.Note += "Only the first " + count(mostLines) + " lines are shown. "
-		lines = lines[:mostLines]
-	}
-	if !utf8.ValidString(text) {
-		p.Note += "Bytes that are no UTF-8 are shown as \ufffd. "
-	}
-	if strings.IndexFunc(text, isTurning) >= 0 {
-		p.Note += "Characters that change the direction of text are shown as \ufffd. "
-	}
-	for _, it := range lines {
-		p.Lines = append(p.Lines, line(it))
-	}
+	return ""
 }
 
 // raw answers with a file's bytes, which no browser takes for a page.
@@ -104,10 +108,22 @@ func (v Visit) raw(ctx context.Context) (Answer, error) {
 	}
 	answer := Answer{Status: http.StatusOK, Kind: "application/octet-stream", Name: disposition("attachment", name), Body: f.object.Contents,
 		Tag: f.object.Name.String()}
-	if !isBinary(answer.Body) && utf8.Valid(answer.Body) {
+	switch {
+	case isImage(answer.Body):
+		answer.Kind, answer.Name = http.DetectContentType(answer.Body), disposition("inline", name)
+	case !browse.IsBinary(answer.Body) && utf8.Valid(answer.Body):
 		answer.Kind, answer.Name = "text/plain; charset=utf-8", disposition("inline", name)
 	}
 	return answer, nil
+}
+
+// isImage tells whether contents are a picture of a form that has no text to run.
+func isImage(contents []byte) bool {
+	switch http.DetectContentType(contents) {
+	case "image/png", "image/jpeg", "image/gif", "image/webp":
+		return true
+	}
+	return false
 }
 
 // disposition names what is sent.
@@ -121,8 +137,10 @@ const (
 	mostBytes = 4 << 30
 )
 
-// archive writes a tar of a commit, or of a tree.
+// archive writes an archive of a commit, or of a tree.
 func (v Visit) archive(ctx context.Context) (Answer, error) {
+	format := browse.Format(v.Place.Path)
+	v.Place.Path = ""
 	f, err := v.find(ctx)
 	if err != nil {
 		return Answer{}, err
@@ -131,7 +149,7 @@ func (v Visit) archive(ctx context.Context) (Answer, error) {
 		return Answer{}, browse.ErrKind
 	}
 	front := path.Base(v.Place.Tenant) + "-" + f.object.Name.String()[:10]
-	a := browse.Archive{When: v.Now, Files: mostFiles, Bytes: mostBytes}
+	a := browse.Archive{Format: format, When: v.Now, Files: mostFiles, Bytes: mostBytes}
 	tag := f.object.Name.String()
 	if f.commit != nil {
 		tag = f.commit.Name.String()
@@ -139,6 +157,13 @@ func (v Visit) archive(ctx context.Context) (Answer, error) {
 		a.Commit, a.When = tag, f.commit.Committer.When
 	}
 	a.Prefix = front + "/"
-	return Answer{Status: http.StatusOK, Kind: "application/x-tar", Name: disposition("attachment", front+".tar"), Tag: "tar-" + tag,
-		Stream: func(ctx context.Context, to io.Writer) error { return a.Write(ctx, v.Repository, to, f.object.Name) }}, nil
+	answer := Answer{Status: http.StatusOK, Kind: format.MediaType(), Name: disposition("attachment", front+"."+string(format)),
+		Tag: string(format) + "-" + tag, Stream: func(ctx context.Context, to io.Writer) error { return a.Write(ctx, v.Repository, to, f.object.Name) }}
+	if !format.IsCompressed() {
+		return answer, nil
+	}
+	if answer.End, err = v.enter(ctx, compressed, shortWait); err != nil {
+		err = errArchives
+	}
+	return answer, err
 }

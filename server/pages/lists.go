@@ -4,6 +4,7 @@ import (
 	"context"
 	"net/url"
 	"strings"
+	"time"
 
 	"gitpoold/browse"
 	"gitpoold/tenants"
@@ -11,9 +12,14 @@ import (
 
 // Rows of a page.
 const (
-	mostTenants = 50
 	mostRefs    = 100
 	mostCommits = 50
+)
+
+// What a page of a history reads, and one of a path or of what is searched in messages.
+var (
+	toLog     = browse.Bounds{Objects: 2000, Bytes: 64 << 20, Time: 5 * time.Second}
+	toHistory = browse.Bounds{Objects: 10000, Bytes: 64 << 20, Time: 2 * time.Second}
 )
 
 // mostName is how many bytes of a person's name are shown.
@@ -41,39 +47,6 @@ func subjectOf(m browse.Message) string {
 	return visible(text)
 }
 
-type tenantRow struct {
-	link
-	CanPush bool
-	Latest  *commitLine
-}
-
-// tenants lists the tenants that the user may see, a page at a time.
-func (v Visit) tenants(ctx context.Context) (Answer, error) {
-	all := v.Listed()
-	rows, more := all, ""
-	after := v.Query.Get("after")
-	for len(rows) > 0 && after != "" && rows[0].Name <= after {
-		rows = rows[1:]
-	}
-	if len(rows) > mostTenants {
-		rows = rows[:mostTenants]
-		more = "/?after=" + url.QueryEscape(rows[mostTenants-1].Name)
-	}
-	page := struct {
-		Rows        []tenantRow
-		Count, More string
-	}{nil, several(len(all), "repository", "repositories"), more}
-	for _, it := range rows {
-		c, err := headOf(ctx, it.Repository)
-		if err != nil {
-			return Answer{}, err
-		}
-		at := Place{Kind: Home, Tenant: it.Name}
-		page.Rows = append(page.Rows, tenantRow{link{at.URL(), it.Name}, it.CanPush, v.lineOf(at, c)})
-	}
-	return v.page("tenants", frame{Title: "Repositories"}, page)
-}
-
 // headOf gives the commit of HEAD, or nil.
 func headOf(ctx context.Context, r Repository) (*browse.Commit, error) {
 	return commitOf(ctx, r, "HEAD")
@@ -94,7 +67,8 @@ func commitOf(ctx context.Context, r Repository, revision string) (*browse.Commi
 
 type refRow struct {
 	link
-	Log, Archive, Other string
+	Log, Compare, Other string
+	Archives            []link
 	IsHead              bool
 	Latest              *commitLine
 }
@@ -153,7 +127,10 @@ func (v Visit) refRows(ctx context.Context, refs []tenants.Ref, head string) ([]
 		row := refRow{link: link{v.Place.At(Tree, it.Name, "").URL(), visible(shortRef(it.Name))}, IsHead: it.Name == head}
 		if c := commits[names[at]]; c != nil {
 			row.Latest = v.lineOf(v.Place, c)
-			row.Log, row.Archive = v.Place.At(Log, it.Name, "").URL(), v.Place.At(Archive, it.Name, "").URL()
+			row.Log, row.Archives = v.Place.At(Log, it.Name, "").URL(), v.archives(it.Name)
+			if !row.IsHead {
+				row.Compare = v.Place.At(Compare, "HEAD", "..."+it.Name).URL()
+			}
 		} else {
 			row.URL = v.Place.At(Commit, it.Name, "").URL()
 			row.Other = "an object that is no commit"
@@ -189,32 +166,63 @@ func shortRef(name string) string {
 	return name
 }
 
+// logPage is a page of a history: of all commits, of those that changed a path, or of those whose message has a text.
+type logPage struct {
+	Revision, Path, Text   string
+	Rows                   []*commitLine
+	Newest, Older          string
+	IsTooWide, IsContinued bool
+}
+
 // log shows a history, a page at a time. The next page's URL names the commits with which it begins.
 func (v Visit) log(ctx context.Context) (Answer, error) {
+	page, from, err := v.logOf(ctx, "", url.Values{})
+	if err != nil {
+		return Answer{}, err
+	}
+	f := frame{Title: v.Place.Tenant + ": commits of " + page.Revision, Tab: Log, Revision: v.Place.Revision,
+		Feed: v.Place.At(Feed, v.Place.Revision, "").URL()}
+	if v.Place.Path != "" {
+		f.Title, f.Crumbs = v.Place.Tenant+": commits of "+page.Path+" at "+page.Revision, v.pathCrumbs()
+	}
+	if !page.IsContinued && len(from) == 1 {
+		f.Permalink = v.permalink(&browse.Commit{Name: from[0]})
+	}
+	return v.page("log", f, page)
+}
+
+// logOf reads a page of a history, of which the next one has this query and the commits with which it begins.
+func (v Visit) logOf(ctx context.Context, text string, query url.Values) (*logPage, []tenants.Name, error) {
 	from, err := v.logFrom(ctx)
 	if err != nil {
-		return Answer{}, err
+		return nil, nil, err
 	}
-	commits, next, err := browse.Log(ctx, v.Repository, from, mostCommits)
+	q := browse.Query{From: from, Path: v.Place.Path, Text: browse.NewPattern(text), Most: mostCommits, Bounds: toLog}
+	if q.Path != "" || text != "" {
+		q.Bounds = toHistory
+	}
+	commits, next, err := browse.Log(ctx, v.Repository, q)
 	if err != nil {
-		return Answer{}, err
+		return nil, nil, err
 	}
-	page := struct {
-		Revision    string
-		Rows        []*commitLine
-		Newest      string
-		Older       string
-		IsTooWide   bool
-		IsContinued bool
-	}{Revision: visible(shortRef(v.Place.Revision)), IsContinued: v.Query.Get("from") != "", Newest: v.Place.URL(),
-		IsTooWide: len(next) > mostFrom}
+	page := &logPage{Revision: visible(shownRevision(v.Place.Revision)), Path: visible(v.Place.Path), Text: visible(text),
+		IsContinued: v.Query.Get("from") != "", Newest: withQuery(v.Place, query), IsTooWide: len(next) > mostFrom}
 	for _, it := range commits {
 		page.Rows = append(page.Rows, v.lineOf(v.Place, it))
 	}
-	if len(next) > 0 && len(next) <= mostFrom {
-		page.Older = v.Place.URL() + "?from=" + joined(next)
+	if len(next) > 0 && !page.IsTooWide {
+		query.Set("from", joined(next))
+		page.Older = withQuery(v.Place, query)
 	}
-	return v.page("log", frame{Title: v.Place.Tenant + ": commits of " + page.Revision, Tab: Log, Revision: v.Place.Revision}, page)
+	return page, from, nil
+}
+
+// withQuery is the URL of a place with a query.
+func withQuery(at Place, query url.Values) string {
+	if len(query) == 0 {
+		return at.URL()
+	}
+	return at.URL() + "?" + query.Encode()
 }
 
 const (

@@ -39,15 +39,22 @@ type Visit struct {
 	Listed     func() []Listed // gives the tenants, for that page
 	CloneHTTP  string          // what git clones, or ""
 	CloneSSH   string
-	Markdown   Markdown // nil where Markdown is shown as text
+	Origin     string    // the front of URLs of this server, or ""
+	Markdown   Markdown  // nil where Markdown is shown as text
+	Highlight  Highlight // nil where files have no colours
+	IsIndexed  bool      // search engines may list what everyone may read
 	Now        time.Time
+	// Description is what the operator says of the tenant.
+	Description string
 }
 
 // Listed is a tenant that the user may see.
 type Listed struct {
-	Name       string
-	CanPush    bool
-	Repository Repository
+	Name        string
+	Description string
+	Pushed      time.Time // when it was pushed to last, if that is known
+	CanPush     bool
+	Repository  Repository
 }
 
 // Answer is what a browser gets: Body, or what Stream writes.
@@ -57,9 +64,11 @@ type Answer struct {
 	Name     string // that a browser saves it under, or ""
 	Body     []byte
 	Stream   func(context.Context, io.Writer) error
+	End      func() // is called once the answer was sent or given up; nil is nothing
 	Tag      string // its ETag, without quotes, or ""
 	Location string // of a redirection
 	IsPage   bool   // it may use the server's style
+	Asks     bool   // it may ask the server for pages by a form
 	HasForms bool   // it may send forms to the server, and is kept nowhere
 	IsStatic bool   // it never changes
 	Err      error  // the server's own trouble, for its log
@@ -105,15 +114,20 @@ const (
 // room bounds how many pages are made at once: four, of visitors two, of one address one, and of one user two.
 var room = turns.New(turns.Limits{Places: 4, OfKind: [2]int{2, 4}, OfOneOfIt: [2]int{1, 2}})
 
-// How long a page waits for its turn, and how long it may be made.
+// How long a page waits for its turn, and how long it may be made; and how long an archive waits within that.
 const (
 	longestWait = 20 * time.Second
 	longestMake = 30 * time.Second
+	shortWait   = time.Second
 )
 
-// enter waits until the page may be made, and gives the call that ends its turn.
-func (v Visit) enter(ctx context.Context) (leave func(), err error) {
-	ctx, stop := context.WithTimeout(ctx, longestWait)
+// compressed bounds how many archives are compressed at once: one for an address of visitors, and two for a user, so that none of them takes all
+// processors.
+var compressed = turns.New(turns.Limits{Places: 64, OfKind: [2]int{32, 64}, OfOneOfIt: [2]int{1, 2}})
+
+// enter waits for a turn, at most so long, and gives the call that ends it.
+func (v Visit) enter(ctx context.Context, room *turns.Places, most time.Duration) (leave func(), err error) {
+	ctx, stop := context.WithTimeout(ctx, most)
 	defer stop()
 	if v.User == "" {
 		return room.Enter(ctx, visitors, v.Network)
@@ -123,7 +137,7 @@ func (v Visit) enter(ctx context.Context) (leave func(), err error) {
 
 // Answer makes the page. Its context bounds the time in which a stream is written; the page has to be made sooner.
 func (v Visit) Answer(ctx context.Context) Answer {
-	leave, err := v.enter(ctx)
+	leave, err := v.enter(ctx, room, longestWait)
 	if err != nil {
 		return v.refusalOf(err)
 	}
@@ -132,7 +146,8 @@ func (v Visit) Answer(ctx context.Context) Answer {
 	defer stop()
 	makers := map[Kind]func(Visit, context.Context) (Answer, error){
 		Tenants: Visit.tenants, Home: Visit.home, Refs: Visit.refs, Log: Visit.log, Commit: Visit.commit, Tree: Visit.tree,
-		Blob: Visit.blob, Raw: Visit.raw, Archive: Visit.archive}
+		Blob: Visit.blob, Raw: Visit.raw, Archive: Visit.archive, Blame: Visit.blame, Compare: Visit.compare, Search: Visit.search,
+		Feed: Visit.feed, Sitemap: Visit.sitemap}
 	answer, err := makers[v.Place.Kind](v, ctx)
 	if err != nil {
 		return v.refusalOf(err)
@@ -144,10 +159,14 @@ func (v Visit) Answer(ctx context.Context) Answer {
 func (v Visit) refusalOf(err error) Answer {
 	var fault tenants.Fault
 	switch {
+	case errors.Is(err, errArchives):
+		return v.Refusal(http.StatusTooManyRequests, "Too many archives at once", "Please try again when the others have come, or take the tar.")
 	case errors.Is(err, context.DeadlineExceeded), errors.Is(err, context.Canceled):
 		return v.Refusal(http.StatusServiceUnavailable, "This took too long", "The server is busy. Please try again.")
 	case errors.Is(err, errNothing), errors.Is(err, tenants.ErrMissing), errors.As(err, &fault) && fault.Number != 90:
 		return v.Refusal(http.StatusNotFound, "Nothing here", "The repository has no such revision or path.")
+	case errors.Is(err, browse.ErrTooMuch):
+		return v.Refusal(http.StatusUnprocessableEntity, "Too much", "This is more than the server reads for one page. Git shows all of it.")
 	case errors.Is(err, browse.ErrKind):
 		return v.Refusal(http.StatusNotFound, "Nothing here", "This is an object of another kind than the page shows.")
 	case tenants.IsSentence(err):
@@ -158,7 +177,10 @@ func (v Visit) refusalOf(err error) Answer {
 	return answer
 }
 
-var errNothing = errors.New("nothing has this name")
+var (
+	errNothing  = errors.New("nothing has this name")
+	errArchives = errors.New("as many archives are compressed as may be at once")
+)
 
 // Refusal is a page that says why there is no other. It says nothing of what was asked for.
 func (v Visit) Refusal(status int, title, why string) Answer {
@@ -178,6 +200,10 @@ type frame struct {
 	Crumbs []link
 	// Revision is what the tabs go to; "" is HEAD.
 	Revision string
+	// Permalink is the page that shows this for ever, and Feed that of its new commits; or "".
+	Permalink, Feed string
+	// IsIndexed lets search engines list the page.
+	IsIndexed bool
 }
 
 type link struct{ URL, Text string }
@@ -195,13 +221,12 @@ type tab struct {
 	IsHere bool
 }
 
-var templates = parse("tenants", "home", "refs", "log", "commit", "tree", "blob", "refusal", "account")
+var templates = parse("tenants", "home", "refs", "log", "commit", "tree", "blob", "blame", "compare", "search", "refusal", "account")
 
 func parse(names ...string) map[string]*template.Template {
 	all := map[string]*template.Template{}
 	for _, name := range names {
-		empty := template.New("layout.html").Funcs(template.FuncMap{"number": func(at int) int { return at + 1 }})
-		all[name] = template.Must(empty.ParseFS(files, "files/layout.html", "files/parts.html", "files/"+name+".html"))
+		all[name] = template.Must(template.New("layout.html").ParseFS(files, "files/layout.html", "files/parts.html", "files/"+name+".html"))
 	}
 	return all
 }
@@ -210,6 +235,7 @@ func parse(names ...string) map[string]*template.Template {
 func (v Visit) page(name string, f frame, page any) (Answer, error) {
 	l := layout{frame: f, Style: Place{Kind: Style}.URL(), Icon: Place{Kind: Icon}.URL(), User: v.User, Page: page,
 		Account: AccountPath}
+	l.IsIndexed = v.IsIndexed && (name == "tenants" || name == "home")
 	if v.Place.Tenant != "" {
 		home := v.Place.At(Home, "", "")
 		l.Tenant, l.HomeURL = v.Place.Tenant, home.URL()
@@ -237,5 +263,6 @@ func (v Visit) tabs(f frame) []tab {
 	isFiles := f.Tab == Home || f.Tab == Tree || f.Tab == Blob
 	return []tab{{link{files.URL(), "Files"}, isFiles},
 		{link{v.Place.At(Log, revision, "").URL(), "Commits"}, f.Tab == Log || f.Tab == Commit},
-		{link{v.Place.At(Refs, "", "").URL(), "Branches and tags"}, f.Tab == Refs}}
+		{link{v.Place.At(Refs, "", "").URL(), "Branches and tags"}, f.Tab == Refs},
+		{link{v.Place.At(Search, revision, "").URL(), "Search"}, f.Tab == Search}}
 }

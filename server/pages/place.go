@@ -4,6 +4,7 @@ import (
 	"regexp"
 	"strings"
 
+	"gitpoold/browse"
 	"gitpoold/tenants"
 )
 
@@ -23,6 +24,13 @@ const (
 	Raw     Kind = "raw"
 	Commit  Kind = "commit"
 	Archive Kind = "archive"
+	Blame   Kind = "blame"
+	Compare Kind = "compare"
+	Search  Kind = "search"
+	Feed    Kind = "feed"
+	// Robots and Sitemap are for search engines.
+	Robots  Kind = "robots"
+	Sitemap Kind = "sitemap"
 )
 
 // Place is what the path of a URL asks for.
@@ -31,10 +39,11 @@ const (
 //	/TENANT                      a tenant
 //	/TENANT/-/                   the same; for a tenant whose name looks like a path that git asks for
 //	/TENANT/-/refs
-//	/TENANT/-/log/REVISION
-//	/TENANT/-/commit/REVISION
-//	/TENANT/-/tree/REVISION:PATH and blob, raw; without :PATH the revision's own tree or blob
-//	/TENANT/-/archive/REVISION.tar
+//	/TENANT/-/commit/REVISION and search, feed
+//	/TENANT/-/tree/REVISION:PATH and blob, raw, blame, log; without :PATH the revision's own tree or blob, or all of its history
+//	/TENANT/-/archive/REVISION.FORMAT, where the format stands as the Path
+//	/TENANT/-/compare/REVISION..REVISION and with three dots; the Path is the dots and the second one
+//	/robots.txt and /-/sitemap.xml
 //
 // No part of a tenant's name begins with `-`, so the first `/-/` ends the tenant's name. No revision has a colon here, as no ref has
 // one, so the first colon ends the revision. What comes after it is a path, whatever its bytes.
@@ -44,6 +53,9 @@ type Place struct {
 	Revision string
 	Path     string
 }
+
+// robotsPath is where search engines ask what they may read.
+const robotsPath = "/robots.txt"
 
 // separator stands between the name of a tenant and the rest.
 const separator = "/-/"
@@ -63,6 +75,8 @@ func Parse(path string) (place Place, ok bool) {
 	switch {
 	case path == "/":
 		return Place{Kind: Tenants}, true
+	case path == robotsPath:
+		return Place{Kind: Robots}, true
 	case isBelow && front == "":
 		return static(path)
 	case !isBelow && forGit.MatchString(path) || !strings.HasPrefix(path, "/"):
@@ -84,7 +98,7 @@ func Parse(path string) (place Place, ok bool) {
 
 // static finds a file of the server's own.
 func static(path string) (Place, bool) {
-	for _, kind := range []Kind{Style, Icon} {
+	for _, kind := range []Kind{Style, Icon, Sitemap} {
 		if it := (Place{Kind: kind}); path == it.URL() {
 			return it, true
 		}
@@ -95,24 +109,50 @@ func static(path string) (Place, bool) {
 // below reads what stands after the separator.
 func (p Place) below(rest string) (Place, bool) {
 	word, text, hasText := strings.Cut(rest, "/")
-	p.Kind = Kind(word)
-	isRevision := true
-	switch p.Kind {
+	isWhole := true
+	switch p.Kind = Kind(word); p.Kind {
 	case Refs:
 		return p, !hasText
-	case Log, Commit:
+	case Commit, Search, Feed:
 		p.Revision = text
+	case Compare:
+		at := strings.Index(text, "..")
+		if at < 0 {
+			return p, false
+		}
+		p.Revision, p.Path = text[:at], text[at:]
+		_, other := p.dots()
+		isWhole = isExpression(other)
 	case Archive:
-		p.Revision = strings.TrimSuffix(text, ".tar")
-		isRevision = p.Revision != text
-	case Tree, Blob, Raw:
+		p.Revision, p.Path = formatOf(text)
+		isWhole = p.Path != ""
+	case Tree, Blob, Raw, Blame, Log:
 		var hasPath bool
 		p.Revision, p.Path, hasPath = strings.Cut(text, ":")
-		isRevision = !hasPath || p.Path != ""
+		isWhole = !hasPath || p.Path != ""
 	default:
-		isRevision = false
+		return p, false
 	}
-	return p, isRevision && isExpression(p.Revision)
+	return p, isWhole && isExpression(p.Revision)
+}
+
+// dots gives the dots of a comparison, and the revision after them.
+func (p Place) dots() (dots, other string) {
+	dots = ".."
+	if strings.HasPrefix(p.Path, "...") {
+		dots = "..."
+	}
+	return dots, strings.TrimPrefix(p.Path, dots)
+}
+
+// formatOf parts the name of an archive into a revision and a format, which is empty where there is none.
+func formatOf(name string) (revision, format string) {
+	for _, it := range browse.Formats {
+		if end := "." + string(it); strings.HasSuffix(name, end) {
+			return strings.TrimSuffix(name, end), string(it)
+		}
+	}
+	return name, ""
 }
 
 func isExpression(text string) bool {
@@ -128,6 +168,10 @@ func (p Place) URL() string {
 		return separator + "style-" + styleDigest + ".css"
 	case Icon:
 		return separator + "icon-" + iconDigest + ".svg"
+	case Robots:
+		return robotsPath
+	case Sitemap:
+		return separator + "sitemap.xml"
 	case Home:
 		if forGit.MatchString("/" + p.Tenant) {
 			return "/" + p.Tenant + separator
@@ -139,10 +183,14 @@ func (p Place) URL() string {
 		text += "/" + escaped(p.Revision)
 	}
 	if p.Path != "" {
-		text += ":" + escaped(p.Path)
-	}
-	if p.Kind == Archive {
-		text += ".tar"
+		switch p.Kind {
+		case Archive:
+			text += "."
+		case Compare:
+		default:
+			text += ":"
+		}
+		text += escaped(p.Path)
 	}
 	return text
 }

@@ -28,14 +28,15 @@ func TestParseReadsBackWhatURLWrites(t *testing.T) {
 			}
 		}
 		for _, revision := range revisions {
-			for _, kind := range []Kind{Log, Commit, Archive} {
-				place := Place{kind, tenant, revision, ""}
+			for _, place := range []Place{{Log, tenant, revision, ""}, {Commit, tenant, revision, ""}, {Search, tenant, revision, ""}, {Feed, tenant, revision, ""},
+				{Archive, tenant, revision, "tar"}, {Archive, tenant, revision, "tar.gz"}, {Archive, tenant, revision, "zip"},
+				{Compare, tenant, revision, "..v1"}, {Compare, tenant, revision, "...main"}} {
 				if got, ok := read(t, place.URL()); !ok || got != place {
 					t.Errorf("%+v is %s, and that is %+v", place, place.URL(), got)
 				}
 			}
 			for _, path := range paths {
-				for _, kind := range []Kind{Tree, Blob, Raw} {
+				for _, kind := range []Kind{Tree, Blob, Raw, Blame, Log} {
 					place := Place{kind, tenant, revision, path}
 					if got, ok := read(t, place.URL()); !ok || got != place {
 						t.Errorf("%+v is %s, and that is %+v", place, place.URL(), got)
@@ -49,14 +50,14 @@ func TestParseReadsBackWhatURLWrites(t *testing.T) {
 func TestNoPlaceHasTheURLOfAnother(t *testing.T) {
 	random := rand.New(rand.NewSource(1))
 	seen := map[string]Place{}
-	parts := []string{"a", "-", "/", ":", ".tar", "tree", "log", "b", "%", "refs", ".git", "HEAD", "~1"}
+	parts := []string{"a", "-", "/", ":", ".tar", ".gz", "..", "tree", "compare", "log", "b", "%", "refs", ".git", "HEAD", "~1"}
 	word := func() (text string) {
 		for n := 1 + random.Intn(6); n > 0; n-- {
 			text += parts[random.Intn(len(parts))]
 		}
 		return text
 	}
-	kinds := []Kind{Home, Refs, Log, Commit, Tree, Blob, Raw, Archive}
+	kinds := []Kind{Home, Refs, Log, Commit, Tree, Blob, Raw, Archive, Compare, Blame}
 	for round := 0; round < 50000; round++ {
 		place := Place{kinds[random.Intn(len(kinds))], word(), word(), word()}
 		text, err := url.PathUnescape(place.URL())
@@ -80,7 +81,9 @@ func TestNoPlaceHasTheURLOfAnother(t *testing.T) {
 func TestParseRefusesWhatIsNoPage(t *testing.T) {
 	for _, path := range []string{"", "*", "x", "//", "/-/", "/-/x", "/-/style-.css", "/a.b", "/a/../b", "/./a", "/-a", "/a/-b", "/a//b", "/a b", "/a\x00",
 		"/a/info/refs", "/a/git-upload-pack", "/a/git-receive-pack", "/a/HEAD", "/a/objects/info", "/metrics", "/healthz", "/a/-/x", "/a/-/refs/",
-		"/a/-/refs/x", "/a/-/log", "/a/-/log/", "/a/-/log/a..b", "/a/-/log/-x", "/a/-/log/a b", "/a/-/log/a\n", "/a/-/log/a:b", "/a/-/tree/a:",
+		"/a/-/refs/x", "/a/-/log", "/a/-/log/", "/a/-/log/a..b", "/a/-/log/-x", "/a/-/log/a b", "/a/-/log/a\n", "/a/-/log/a:", "/a/-/tree/a:", "/a/-/compare/a", "/a/-/compare/a..",
+		"/a/-/compare/..b", "/a/-/compare/a..b..c",
+		"/a/-/compare/a:x..b", "/a/-/search/a:b", "/a/-/feed/", "/a/-/archive/a.rar", "/a/-/archive/.tar.gz", "/-/sitemap", "/robots.txt/",
 		"/a/-/tree/:b", "/a/-/archive/main", "/a/-/archive/.tar", "/a/-/log/" + strings.Repeat("a", 1201), "/" + strings.Repeat("a", 65),
 		"/a/-/log/a*", "/a/-/log/a?", "/a/-/log/a[", "/a/-/log/a\\", "/a/-/log/\x7f"} {
 		if place, ok := Parse(path); ok {

@@ -44,7 +44,7 @@ func (v Visit) readme(ctx context.Context, at Place, entries []browse.Entry) (*r
 	here := at.At(Blob, at.Revision, joinedPath(at.Path, best.Path))
 	r := &readme{Name: visible(best.Path), URL: here.URL()}
 	switch {
-	case isBinary(o.Contents):
+	case browse.IsBinary(o.Contents):
 		r.Why = "It is binary, so it is not shown."
 	case len(o.Contents) > mostReadme:
 		r.Why = "It is large, so it is not shown here."
@@ -54,7 +54,7 @@ func (v Visit) readme(ctx context.Context, at Place, entries []browse.Entry) (*r
 		if path.Ext(strings.ToLower(best.Path)) == ".md" && v.Markdown != nil {
 			text, err = v.Markdown(contents, at.resolved)
 		}
-		if r.HTML = template.HTML(text); text == "" {
+		if r.HTML = template.HTML(block(text)); text == "" {
 			r.Text = string(contents)
 		}
 	}

@@ -33,20 +33,6 @@ func shown(text, kept string) string {
 // isTurning tells whether a character changes the direction of text that comes after it.
 func isTurning(r rune) bool { return 0x202a <= r && r <= 0x202e || 0x2066 <= r && r <= 0x2069 }
 
-// isBinary tells whether git would take contents for no text.
-func isBinary(contents []byte) bool {
-	const looked = 8000
-	for at, b := range contents {
-		if b == 0 {
-			return true
-		}
-		if at == looked {
-			break
-		}
-	}
-	return false
-}
-
 // longestLine is how many bytes of a line are shown.
 const longestLine = 2000
 

@@ -7,6 +7,7 @@ import (
 	"sort"
 	"strconv"
 	"strings"
+	"time"
 
 	"gitpoold/browse"
 	"gitpoold/tenants"
@@ -18,18 +19,25 @@ const (
 	mostNames   = 256 << 10
 )
 
-// entryRow is an entry of a tree as its page shows it.
+// toLatest is what is read for the commits that stand beside the entries of a tree.
+var toLatest = browse.Bounds{Objects: 2500, Bytes: 16 << 20, Time: 500 * time.Millisecond}
+
+// entryRow is an entry of a tree as its page shows it, with the commit that changed it last, if that was found.
 type entryRow struct {
 	URL, Name, Kind, Class string
+	Latest                 *commitLine
 }
 
 // listing is a tree, or a page of it.
 type listing struct {
 	Rows        []entryRow
 	Count, More string
+	Note        string
 	Parent      string
 	Latest      *commitLine
-	Archive     string
+	History     string
+	Search      string
+	Archives    []link
 	Readme      *readme
 }
 
@@ -46,10 +54,11 @@ func (v Visit) listing(ctx context.Context, at Place, tree tenants.Name, c *brow
 	sort.SliceStable(entries, func(i, k int) bool { return entries[i].IsTree() && !entries[k].IsTree() })
 	l := &listing{Count: several(len(entries), "entry", "entries"), Latest: v.lineOf(at, c)}
 	if c != nil {
-		l.Archive = at.At(Archive, at.Revision, "").URL()
+		l.Archives, l.Search = v.archives(at.Revision), at.At(Search, at.Revision, "").URL()
 	}
 	if at.Path != "" {
 		l.Parent = at.At(Tree, at.Revision, parentOf(at.Path)).URL()
+		l.History = v.historyOf(at, c)
 	}
 	from, _ := strconv.Atoi(v.Query.Get("from"))
 	if from < 0 || from > len(entries) {
@@ -66,7 +75,34 @@ func (v Visit) listing(ctx context.Context, at Place, tree tenants.Name, c *brow
 	if from == 0 {
 		l.Readme, err = v.readme(ctx, at, entries)
 	}
+	if c != nil && err == nil {
+		err = v.latest(ctx, l, at.Path, c, entries[from:from+len(l.Rows)])
+	}
 	return l, err
+}
+
+// latest puts beside each entry the commit that changed it last, and says of how many it has not found that.
+func (v Visit) latest(ctx context.Context, l *listing, path string, c *browse.Commit, entries []browse.Entry) error {
+	names := make([]string, len(entries))
+	for at, it := range entries {
+		names[at] = it.Path
+	}
+	found, err := browse.Latest(ctx, v.Repository, c, path, names, toLatest)
+	for at, name := range names {
+		l.Rows[at].Latest = v.lineOf(v.Place, found[name])
+	}
+	if unfound := len(names) - len(found); unfound > 0 {
+		l.Note = "The last commit of " + several(unfound, "entry", "entries") + " is further back than this page looks."
+	}
+	return err
+}
+
+// historyOf is the page of the commits that changed a path; "" where no commit leads to it.
+func (v Visit) historyOf(at Place, c *browse.Commit) string {
+	if c == nil {
+		return ""
+	}
+	return at.At(Log, at.Revision, at.Path).URL()
 }
 
 func parentOf(of string) string {
@@ -94,10 +130,13 @@ func rowOf(at Place, it browse.Entry) entryRow {
 		row.URL, row.Kind, row.Class = "", "submodule at "+it.Name.String()[:10], "m"
 	case it.IsLink():
 		row.Kind, row.Class = "symbolic link", "l"
-	case it.Mode == "100755":
+	case it.IsExecutable():
 		row.Kind, row.Class = "executable file", "x"
 	default:
 		row.Kind, row.Class = "file", "f"
+	}
+	if !it.IsUsual() && it.Mode != "" {
+		row.Kind, row.Class = row.Kind+", mode "+visible(it.Mode), row.Class+" odd"
 	}
 	return row
 }
@@ -111,10 +150,11 @@ func (v Visit) home(ctx context.Context) (Answer, error) {
 	page := struct {
 		Clone, Push          []string
 		Branches, Tags, Refs string
-		Head                 string
+		Head, Description    string
 		Listing              *listing
 		IsEmpty              bool
-	}{Clone: v.clones("git clone "), Head: visible(shortRef(head)), Refs: v.Place.At(Refs, "", "").URL(), IsEmpty: len(refs) == 0}
+	}{Clone: v.clones("git clone "), Description: visible(v.Description), Head: visible(shortRef(head)), Refs: v.Place.At(Refs, "", "").URL(),
+		IsEmpty: len(refs) == 0}
 	if page.IsEmpty {
 		page.Push = v.clones("git push ", " HEAD:main")
 	}
@@ -127,7 +167,11 @@ func (v Visit) home(ctx context.Context) (Answer, error) {
 	if err != nil {
 		return Answer{}, err
 	}
-	return v.page("home", frame{Title: v.Place.Tenant, Tab: Home}, page)
+	f := frame{Title: v.Place.Tenant, Tab: Home, Feed: v.Place.At(Feed, "HEAD", "").URL()}
+	if c != nil {
+		f.Permalink = v.Place.At(Tree, c.Name.String(), "").URL()
+	}
+	return v.page("home", f, page)
 }
 
 func counted(refs []tenants.Ref, front string) (count int) {
@@ -239,7 +283,7 @@ func (v Visit) tree(ctx context.Context) (Answer, error) {
 		title += visible(v.Place.Path) + " at "
 	}
 	return v.page("tree", frame{Title: title + visible(shownRevision(v.Place.Revision)), Tab: Tree, Revision: v.Place.Revision,
-		Crumbs: v.pathCrumbs()}, struct{ Listing *listing }{l})
+		Crumbs: v.pathCrumbs(), Permalink: v.permalink(f.commit)}, struct{ Listing *listing }{l})
 }
 
 // redirect answers with another place.

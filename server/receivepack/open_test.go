@@ -13,6 +13,7 @@ import (
 	"testing"
 	"time"
 
+	"gitpoold/await"
 	"gitpoold/pack"
 	"gitpoold/pktline"
 	"gitpoold/store"
@@ -166,19 +167,10 @@ func TestAClientMayKeepItsSideOpen(t *testing.T) {
 			_, report := answerOf(t, out)
 			told <- report
 		}()
-		select {
-		case report := <-told:
-			if len(report) != 2 || !strings.Contains(report[0], says) {
-				t.Errorf("%s: %q", says, report)
-			}
-		case <-time.After(10 * time.Second):
-			t.Errorf("%s: the client is told nothing", says)
+		if report := await.From(t, "the report", told); len(report) != 2 || !strings.Contains(report[0], says) {
+			t.Errorf("%s: %q", says, report)
 		}
-		select {
-		case <-ended:
-		case <-time.After(10 * time.Second):
-			t.Errorf("%s: the server waits for the client", says)
-		}
+		await.From(t, "the end, for which the server waits for no client", ended)
 		writer.Close()
 	}
 	if refs, _, err := it.Refs(background); err != nil || len(refs) != 1 {

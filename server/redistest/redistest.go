@@ -12,6 +12,8 @@ import (
 	"time"
 
 	"github.com/gomodule/redigo/redis"
+
+	"gitpoold/await"
 )
 
 // Server is a redis-server. Its folder outlives its process.
@@ -26,7 +28,7 @@ type Server struct {
 // Start starts a server that syncs each write before it acknowledges it, unless the settings say otherwise. It ends with the test.
 func Start(t testing.TB, settings ...string) *Server {
 	t.Helper()
-	s := &Server{t: t, folder: t.TempDir(), port: freePort(t)}
+	s := &Server{t: t, folder: t.TempDir(), port: heldPort(t)}
 	s.settings = append([]string{"--port", fmt.Sprint(s.port), "--bind", "127.0.0.1", "--dir", s.folder, "--logfile", "redis.log",
 		"--save", "", "--appendonly", "yes", "--appendfsync", "always"}, settings...)
 	t.Cleanup(s.Kill)
@@ -47,7 +49,7 @@ func (s *Server) Restart() {
 	if err := s.process.Start(); err != nil {
 		s.t.Fatal(err)
 	}
-	for until := time.Now().Add(30 * time.Second); ; time.Sleep(5 * time.Millisecond) {
+	for until := time.Now().Add(await.Longest); ; time.Sleep(5 * time.Millisecond) {
 		conn, err := redis.Dial("tcp", s.Host())
 		if err == nil {
 			_, err = conn.Do("PING")
@@ -149,20 +151,31 @@ func StartSentinel(t testing.TB, name string, watched *Server) *Server {
 	if err := os.WriteFile(file, []byte(text), 0o600); err != nil {
 		t.Fatal(err)
 	}
-	s := &Server{t: t, folder: t.TempDir(), port: freePort(t)}
+	s := &Server{t: t, folder: t.TempDir(), port: heldPort(t)}
 	s.settings = []string{file, "--sentinel", "--port", fmt.Sprint(s.port), "--bind", "127.0.0.1", "--dir", s.folder, "--logfile", "redis.log"}
 	t.Cleanup(s.Kill)
 	s.Restart()
 	return s
 }
 
-// freePort gives a port on which nobody listens.
-func freePort(t testing.TB) int {
+// heldPort gives a port of a server's own until the test ends: a socket has it that does not listen, so that a server may, also one that is started
+// again, and the system gives the port to no connection meanwhile.
+func heldPort(t testing.TB) int {
 	t.Helper()
-	listener, err := net.Listen("tcp", "127.0.0.1:0")
+	socket, err := syscall.Socket(syscall.AF_INET, syscall.SOCK_STREAM|syscall.SOCK_CLOEXEC, 0)
 	if err != nil {
 		t.Fatal(err)
 	}
-	defer listener.Close()
-	return listener.Addr().(*net.TCPAddr).Port
+	t.Cleanup(func() { syscall.Close(socket) })
+	if err = syscall.SetsockoptInt(socket, syscall.SOL_SOCKET, syscall.SO_REUSEADDR, 1); err == nil {
+		err = syscall.Bind(socket, &syscall.SockaddrInet4{Addr: [4]byte{127, 0, 0, 1}})
+	}
+	if err != nil {
+		t.Fatal(err)
+	}
+	address, err := syscall.Getsockname(socket)
+	if err != nil {
+		t.Fatal(err)
+	}
+	return address.(*syscall.SockaddrInet4).Port
 }

@@ -7,6 +7,7 @@ import (
 	"io"
 	"io/fs"
 	"os"
+	"path/filepath"
 	"syscall"
 )
 
@@ -77,4 +78,24 @@ func Own(file *os.File, folder string) error {
 		return err
 	}
 	return file.Chown(user, group)
+}
+
+// SyncFolder syncs a folder, so that the names of its files last.
+func SyncFolder(path string) error {
+	folder, err := os.Open(path)
+	if err != nil {
+		return err
+	}
+	defer folder.Close()
+	return folder.Sync()
+}
+
+// SyncFolders syncs a folder and all below it.
+func SyncFolders(path string) error {
+	return filepath.WalkDir(path, func(path string, it fs.DirEntry, err error) error {
+		if err == nil && it.IsDir() {
+			err = SyncFolder(path)
+		}
+		return err
+	})
 }

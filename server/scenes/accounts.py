@@ -131,7 +131,7 @@ class Form(Page):
 
 def ask(room: ServerRoom, login: str = "", fields: Optional[Dict[str, str]] = None, **headers: str) -> Tuple[int, str, Dict[str, str]]:
     """What the page answers: to a GET, or to a form."""
-    connection = http.client.HTTPConnection(*room.http, timeout=60)
+    connection = http.client.HTTPConnection(*room.http, timeout=300)
     sent = {name.replace("_", "-"): value for name, value in headers.items()}
     if login:
         sent["Authorization"] = "Basic " + base64.b64encode(login.encode()).decode()
@@ -203,7 +203,7 @@ def forms_of_other_sites_are_refused(room: ServerRoom) -> None:
     its = ask(room, made)
     assert its[0] == 200 and "<form" not in its[1] and "changes nothing here" in its[1]
     room.serverd("token", room.served, "remove", made.split(":")[0])
-    half = socket.create_connection(room.http, timeout=60)
+    half = socket.create_connection(room.http, timeout=300)
     half.sendall((f"POST {PATH} HTTP/1.1\r\nHost: {host}\r\nContent-Type: application/x-www-form-urlencoded\r\nContent-Length: 9999\r\n").encode()
                  + room.basic() + b"\r\nform=")
     half.close()

@@ -9,6 +9,7 @@ import struct
 import subprocess
 import time
 import zlib
+from concurrent.futures import ThreadPoolExecutor
 from typing import List, Sequence, Tuple
 
 from served import ServerRoom, everything, line, once, over_http
@@ -287,12 +288,12 @@ def silent_peers(room: ServerRoom) -> None:
     """A peer that says nothing, or takes nothing, is left within the operator's limits, and others are served meanwhile."""
     site = room.pushed()
     before = room.tenant_refs()
-    for name, value in (("handshake", "2s"), ("idle", "2s")):
+    for name, value in (("handshake", "10s"), ("idle", "10s")):
         room.serverd("limits", room.served, name, value)
     room.stop()
     room.start()
     room.git(site, "remote", "set-url", "pool", room.url())
-    peers = [socket.create_connection(address, timeout=120) for address in (room.http, room.ssh) for _ in range(3)]
+    peers = [socket.create_connection(address, timeout=300) for address in (room.http, room.ssh) for _ in range(3)]
     peers[0].sendall(b"GET /acme")
     peers[1].sendall(b"POST /acme/site.git/git-receive-pack HTTP/1.1\r\nHost: x\r\nContent-Length: 1000\r\n"
                      b"Content-Type: application/x-git-receive-pack-request\r\n" + room.basic() + b"\r\n0000")
@@ -300,12 +301,19 @@ def silent_peers(room: ServerRoom) -> None:
                      b"Content-Type: application/x-git-upload-pack-request\r\n" + room.basic() + b"\r\n0000")
     peers[3].sendall(b"SSH-2.0-x\r\n")
     began = time.monotonic()
+    with ThreadPoolExecutor(len(peers)) as readers:
+        ends = [readers.submit(ends_at, peer) for peer in peers]
+        asks(room, before)
+        took = max(it.result() for it in ends) - began
+    assert took < 60, took
     asks(room, before)
-    for peer in peers:
+
+
+def ends_at(peer: socket.socket) -> float:
+    """When the server ends a connection."""
+    with peer:
         everything(peer)
-        peer.close()
-    assert time.monotonic() - began < 60, time.monotonic() - began
-    asks(room, before)
+    return time.monotonic()
 
 
 @over_http
@@ -353,12 +361,12 @@ def words_of_ssh(room: ServerRoom) -> None:
         if "\0" in command_line:
             continue
         all_words = [*words, command_line] if command_line else words
-        done = subprocess.run(all_words, input=b"0000", capture_output=True, env=room.environment, timeout=120)
+        done = subprocess.run(all_words, input=b"0000", capture_output=True, env=room.environment, timeout=300)
         assert done.returncode == status, (command_line[:60], done.returncode, done.stdout[:100], done.stderr[:300])
         assert b"uid=" not in done.stdout + done.stderr
     for more in (["-L", "0:127.0.0.1:1", "-N", "-o", "ExitOnForwardFailure=yes", "-R", "0:127.0.0.1:1"], ["-s", "sftp"]):
         done = subprocess.run([*words[:-1], *more[:-2], *more[-2:], words[-1]] if "-N" in more else [*words, "-s", "sftp"], input=b"",
-                              capture_output=True, env=room.environment, timeout=120)
+                              capture_output=True, env=room.environment, timeout=300)
         assert done.returncode != 0, done
     asks(room, before)
 

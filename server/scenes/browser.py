@@ -8,7 +8,7 @@ import shutil
 import subprocess
 import time
 from types import TracebackType
-from typing import Any, Dict, List, Optional, Type
+from typing import Any, Dict, List, Optional, Tuple, Type
 
 PROGRAM = shutil.which("chromium") or shutil.which("chromium-browser")
 
@@ -20,13 +20,29 @@ class Browser:
         assert PROGRAM is not None
         to_read, self._to = os.pipe()
         self._from, to_write = os.pipe()
-        words = [PROGRAM, "--headless=new", "--no-sandbox", "--disable-gpu", "--remote-debugging-pipe", "--no-first-run",
-                 "--disable-background-networking", "--disable-component-update", "--disable-dev-shm-usage", "--hide-scrollbars",
-                 f"--user-data-dir={folder}"]
+        words = [
+            PROGRAM,
+            "--headless=new",
+            "--no-sandbox",
+            "--disable-gpu",
+            "--remote-debugging-pipe",
+            "--no-first-run",
+            "--disable-background-networking",
+            "--disable-component-update",
+            "--disable-dev-shm-usage",
+            "--hide-scrollbars",
+            f"--user-data-dir={folder}",
+        ]
         # The browser reads from 3 and writes to 4.
-        shell = f"exec 3<&{to_read} 4>&{to_write}; exec \"$@\""
-        self._process = subprocess.Popen(["bash", "-c", shell, "bash", *words], pass_fds=(to_read, to_write), stdin=subprocess.DEVNULL,
-                                         stdout=subprocess.DEVNULL, stderr=subprocess.DEVNULL, start_new_session=True)
+        shell = f'exec 3<&{to_read} 4>&{to_write}; exec "$@"'
+        self._process = subprocess.Popen(
+            ["bash", "-c", shell, "bash", *words],
+            pass_fds=(to_read, to_write),
+            stdin=subprocess.DEVNULL,
+            stdout=subprocess.DEVNULL,
+            stderr=subprocess.DEVNULL,
+            start_new_session=True,
+        )
         os.close(to_read)
         os.close(to_write)
         self._number, self._rest, self._session = 0, b"", ""
@@ -90,11 +106,21 @@ class Browser:
     requested: List[str] = []
     _loaded = False
 
-    def screen(self, width: int, is_dark: bool = False) -> None:
-        """Sets how wide the page is, and in which colours."""
+    def screen(self, width: int, is_dark: bool = False, medium: str = "screen") -> None:
+        """Sets how wide the page is, in which colours, and whether it is for a screen or for `print`."""
         self._ask("Emulation.setDeviceMetricsOverride", width=width, height=900, deviceScaleFactor=1, mobile=width < 500)
         scheme = {"name": "prefers-color-scheme", "value": "dark" if is_dark else "light"}
-        self._ask("Emulation.setEmulatedMedia", features=[scheme])
+        self._ask("Emulation.setEmulatedMedia", features=[scheme], media=medium)
+
+    def press(self, key: str, code: int) -> None:
+        """Presses a key, such as Tab, whose code is 9."""
+        for kind in ("rawKeyDown", "keyUp"):
+            self._ask("Input.dispatchKeyEvent", type=kind, key=key, code=key, windowsVirtualKeyCode=code)
+
+    def heard(self) -> List[Tuple[str, str]]:
+        """What a screen reader is told of the page: roles and names."""
+        nodes = self._ask("Accessibility.getFullAXTree")["nodes"]
+        return [(it["role"]["value"], it.get("name", {}).get("value", "")) for it in nodes if not it["ignored"]]
 
     def log_in(self, user: str, password: str) -> None:
         """Sends a password with each request from now on; none where the user is empty."""
@@ -108,7 +134,7 @@ class Browser:
         self.requested, self._loaded = [], False
         found = self._ask("Page.navigate", url=url)
         assert "errorText" not in found, (url, found["errorText"])
-        until = time.monotonic() + 60
+        until = time.monotonic() + 300
         while not self._loaded and found.get("loaderId"):
             assert time.monotonic() < until, f"{url} is not loaded"
             self._note(self._next())

@@ -244,7 +244,8 @@ def pages_and_grants(room: ServerRoom) -> None:
         assert homes == listed[user], (user, page.links)
         for tenant in ("acme/site", "acme/other", "open/tools"):
             for path in ("", "/-/refs", "/-/log/main", "/-/tree/main", "/-/blob/main:index.html", "/-/raw/main:index.html", "/-/commit/main",
-                         "/-/archive/main.tar"):
+                         "/-/archive/main.tar", "/-/archive/main.zip", "/-/blame/main:index.html", "/-/compare/main..main", "/-/search/main?q=x",
+                         "/-/feed/main"):
                 status = 200 if tenant in listed[user] else 404 if user else 401
                 there, not_there = (ask(room, f"/{it}{path}", user) for it in (tenant, "acme/nobody"))
                 assert there.status == status, (user, tenant, path, there.status)
@@ -319,10 +320,11 @@ PATHS: List[str] = [
     "/acme/site/-/raw/main:css/../index.html", "/acme/site/-/tree/main:css/", "/acme/site/-/tree/main:/css", "/acme/site/-/tree/main:a//b",
     "/acme/site/-/blob/main:index.html%00", "/acme/site/-/blob/main%00:index.html", "/acme%00/site", "/acme/site%00",
     "/acme/site/-/blob/main:", "/acme/site/-/tree/", "/acme/site/-/tree", "/acme/site/-/log/", "/acme/site/-/log/main..v1", "/acme/site/-/x/main",
-    "/acme/site/-/log/--all", "/acme/site/-/log/main%0arefs", "/acme/site/-/log/main%20refs", "/acme/site/-/log/main:css", "/acme/site/-/refs/",
+    "/acme/site/-/log/--all", "/acme/site/-/log/main%0arefs", "/acme/site/-/log/main%20refs", "/acme/site/-/log/main:", "/acme/site/-/refs/",
     "/acme/site/-/log/main?from=x", "/acme/site/-/log/main?from=" + ".".join(["main"] * 500), "/acme/site/-/log/" + "a" * 20000,
     "/acme/site/-/blob/main:" + "a/" * 5000 + "b", "/acme/site/-/commit/zzz", "/acme/site/-/commit/0000", "/acme/site/-/archive/main",
-    "/acme/site/-/archive/main.tar.gz", "/acme/site/-/commit/" + "0" * 40, "/-/", "/-/style-.css", "/-/style.css", "/-/x", "//acme/site",
+    "/acme/site/-/archive/main.rar", "/acme/site/-/compare/main", "/acme/site/-/compare/main..", "/acme/site/-/compare/main...no", "/acme/site/-/blame/main",
+    "/acme/site/-/blame/main:css", "/acme/site/-/search/main:css", "/acme/site/-/feed/no", "/-/sitemap.xml", "/acme/site/-/commit/" + "0" * 40, "/-/", "/-/style-.css", "/-/style.css", "/-/x", "//acme/site",
     "/acme//site",
     "/acme/./site", "/acme/../site", "/%2e%2e/site", "/acme/site.git.git", "/acme/.site", "/acme/-site", "/acme/s!te", "/favicon.ico", "/robots.txt",
     "/" + "a" * 65, "/acme/site/-/tree/main:index.html/x", "/acme/site/-/raw/main:css", "/acme/site/-/raw/main", "/%ff", "/acme/site/-/log/%ff%fe",

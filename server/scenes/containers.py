@@ -52,7 +52,7 @@ class Container:
     def stop(self) -> None:
         """Stops it as podman does."""
         self.process.terminate()
-        assert self.process.wait(60) == 0, self.said()
+        assert self.process.wait(300) == 0, self.said()
 
     def url(self) -> str:
         """The address of a repository for ada."""

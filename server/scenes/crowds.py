@@ -4,12 +4,12 @@ from __future__ import annotations
 import os
 import resource
 import socket
-import time
 import urllib.request
 from typing import List
 
 from attacks import MIB, asks
 from operating import answers, frame
+from scenes.room import wait_for
 from served import ServerRoom, over_http
 
 
@@ -23,7 +23,7 @@ def at_socket(room: ServerRoom) -> socket.socket:
 def sends_until_closed(peer: socket.socket, step: bytes) -> int:
     """Sends a step again and again and reads nothing, until the server closes the connection. Gives how many bytes it took."""
     sent = 0
-    peer.settimeout(60)
+    peer.settimeout(300)
     try:
         while sent < 1024 * MIB:
             sent += peer.send(step)
@@ -42,7 +42,7 @@ def a_client_that_reads_no_answers(room: ServerRoom) -> None:
     room.commit(site, "Noise")
     room.git(site, "push", "-q", "pool", "main")
     before = room.tenant_refs()
-    room.serverd("limits", room.served, "idle", "2s")
+    room.serverd("limits", room.served, "idle", "10s")
     for step in (frame(4, "acme/site", b"cat main:noise"), frame(2, "acme/other", b"progress told\n" * 1000)):
         with at_socket(room) as peer:
             peer.sendall(frame(1, "acme/other"))
@@ -62,11 +62,11 @@ MANY = 10_000
 @over_http
 def ten_thousand_connections(room: ServerRoom) -> None:
     """As many connections as that wait with half a request: others are served, and memory is bounded. Those beyond `connections` are closed at once,
-    and all are gone after `handshake`."""
+    and all are gone once their clients are."""
     room.pushed()
     before = room.tenant_refs()
     resource.setrlimit(resource.RLIMIT_NOFILE, (resource.getrlimit(resource.RLIMIT_NOFILE)[1],) * 2)
-    for name, value in (("connections", str(MANY + 100)), ("connections-by-address", str(MANY + 100)), ("handshake", "60s")):
+    for name, value in (("connections", str(MANY + 100)), ("connections-by-address", str(MANY + 100)), ("handshake", "30m")):
         room.serverd("limits", room.served, name, value)
     room.stop()
     room.start()
@@ -81,10 +81,7 @@ def ten_thousand_connections(room: ServerRoom) -> None:
     assert room.talk(b"GET /healthz HTTP/1.0\r\n\r\n") == b""
     for it in held:
         it.close()
-    until = time.monotonic() + 60
-    while b" 200 " not in room.talk(b"GET /healthz HTTP/1.0\r\n\r\n") or int(metric(room, "gitpoold_connections")) > 100:
-        assert time.monotonic() < until, metric(room, "gitpoold_connections")
-        time.sleep(0.1)
+    wait_for(lambda: b" 200 " in room.talk(b"GET /healthz HTTP/1.0\r\n\r\n") and metric(room, "gitpoold_connections") <= 100)
     asks(room, before)
 
 

@@ -6,7 +6,6 @@ import re
 import shutil
 import signal
 import subprocess
-import time
 from typing import Dict, List
 
 from in_redis import RedisServer
@@ -77,7 +76,7 @@ class Operator:
         with open(self.logs[-1], "wb") as log:
             process = subprocess.Popen(["bash", "-c", f"exec {command}"], stderr=log, stdout=log, env=self.room.environment)
         self.started.append(process)
-        wait_for(lambda: process.poll() is not None or "serving http" in self.logged(), 120)
+        wait_for(lambda: process.poll() is not None or "serving http" in self.logged(), 300)
         return process.poll() or 0
 
     def logged(self) -> str:
@@ -163,12 +162,12 @@ def the_page_on_deploying_makes_a_replica(room: ServerRoom) -> None:
 def follow(operator: Operator, leader: str, replica: str, ports: List[int]) -> None:
     """Starts the replica by the commands of the page. The leader's folder is on the same machine."""
     operator.places.pop("/srv/git")
-    operator.places.update({"127.0.0.1:8080": f"127.0.0.1:{ports[1]}", "127.0.0.1:2222": f"127.0.0.1:{ports[2]}", "10s": "3s"})
+    operator.places.update({"127.0.0.1:8080": f"127.0.0.1:{ports[1]}", "127.0.0.1:2222": f"127.0.0.1:{ports[2]}", "10s": "8s"})
     *before, status = operator.commands("ssh leader gitpoold save /srv/git")
     for it in before:
         there = re.sub(r"(ssh leader [^|]*)/srv/git", rf"\g<1>{leader}", it)
         operator.run(there.replace("/srv/git", replica))
-    wait_for(lambda: re.search(r"^behind-records +0$", operator.run(status.replace("/srv/git", replica)), re.M) is not None, 120)
+    wait_for(lambda: re.search(r"^behind-records +0$", operator.run(status.replace("/srv/git", replica)), re.M) is not None, 300)
     assert re.search(r"^following +true$", operator.run(status.replace("/srv/git", replica)), re.M)
 
 
@@ -179,10 +178,7 @@ def take_over(operator: Operator, site: str, serve: str, ports: List[int]) -> No
     first.kill()
     first.wait()
     room.commit(site, "After the leader", {"f": "x"})
-    until = time.monotonic() + 60
-    while room.run(["git", "push", "-q", room.url(), "main"], site).returncode:
-        assert time.monotonic() < until, operator.logged()
-        time.sleep(0.2)
+    wait_for(lambda: room.run(["git", "push", "-q", room.url(), "main"], site).returncode == 0)
     room.same(site)
     operator.serve(f"{serve} --follow")
     operator.goes_to(ports[0])

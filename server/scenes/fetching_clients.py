@@ -4,7 +4,7 @@ from __future__ import annotations
 import os
 import socket
 import time
-from typing import List
+from typing import List, Tuple
 
 from served import ServerRoom, line, once, over_http, scene, text
 
@@ -148,11 +148,18 @@ def what_a_client_has_is_asked_once(room: ServerRoom) -> None:
     blob, tree = room.name(site, "main:noise"), room.name(site, "main^{tree}")
     have = line(f"have {blob}\n")
     request = line(f"want {tree} multi_ack_detailed\n") + b"0000" + have * 200 + b"0000" + (line(f"have {blob}\n") + b"0000") * 20
+    once = line(f"want {tree} multi_ack_detailed\n") + b"0000" + have + b"0000"
+    alone, _ = taken(room, once)
+    took, answer = taken(room, request)
+    assert b"ACK " + blob.encode() + b" common" in answer, answer[:300]
+    assert took < 5 + 20 * alone, f"it took {took:.1f} s, and a request that tells the name once {alone:.1f} s"
+
+
+def taken(room: ServerRoom, request: bytes) -> Tuple[float, bytes]:
+    """How many seconds a request to git-upload-pack takes, and its answer."""
     began = time.monotonic()
     if room.scheme == "http":
         answer = room.post("git-upload-pack", request)
     else:
         answer = room.run([*over_ssh(room), "git-upload-pack '/acme/site.git'"], data=request).stdout
-    took = time.monotonic() - began
-    assert b"ACK " + blob.encode() + b" common" in answer, answer[:300]
-    assert took < 5, f"it took {took:.1f} s"
+    return time.monotonic() - began, answer

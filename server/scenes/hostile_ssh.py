@@ -71,14 +71,14 @@ def exchanges_of_keys_that_never_end(room: ServerRoom) -> None:
             file.write(os.urandom(MIB))
     room.commit(site, "Noise")
     room.git(site, "-c", "core.compression=0", "push", "-q", room.url(), "main")
-    room.serverd("limits", room.served, "idle", "4s")
+    room.serverd("limits", room.served, "idle", "15s")
     before, main_name = room.tenant_refs(), room.name(site, "main")
     room.git("", "clone", "-q", room.url(), room.path("first"))
     most = room.memory()
     for how in ("silent", "chatty"):
         with begun(room, main_name, how) as client:
             asks(room, before)
-            client.wait(60)
+            client.wait(300)
         assert room.memory() - most < 40 * MIB, (how, most // MIB, room.memory() // MIB)
     room.git("", "clone", "-q", room.url(), room.path("again"))
     assert room.name("again", "HEAD") == main_name

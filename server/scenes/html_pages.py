@@ -9,11 +9,13 @@ from typing import Dict, List, Optional, Sequence, Tuple
 from served import PASSWORDS, ServerRoom
 
 ELEMENTS = set("""html head meta title link body a header div nav span p strong main ul ol li bdi section table caption thead tbody tr th
-td time h1 h2 h3 h4 h5 h6 pre code dl dt dd i details summary em del blockquote hr br""".split())
+td time h1 h2 h3 h4 h5 h6 pre code dl dt dd i details summary em del blockquote hr br form label input select option button img""".split())
 ATTRIBUTES = set("""lang charset name content rel href type class aria-label aria-hidden aria-current aria-labelledby id tabindex datetime
-title scope data-n data-o role download start align""".split())
-VOID = {"meta", "link", "br", "hr"}
+title scope data-n data-o role download start align method action for value required maxlength autocomplete placeholder selected src alt""".split())
+VOID = {"meta", "link", "br", "hr", "input", "img"}
 POLICY = "default-src 'none'; style-src 'self'; img-src 'self'; base-uri 'none'; form-action 'none'; frame-ancestors 'none'"
+# Of a page that asks for others by a form.
+ASKING = POLICY.replace("form-action 'none'", "form-action 'self'")
 
 
 class Page(HTMLParser):
@@ -26,6 +28,7 @@ class Page(HTMLParser):
         self.ids: List[str] = []
         self.texts: List[Tuple[Tuple[str, ...], str]] = []
         self.classes: List[str] = []
+        self.forms = 0
         self.feed(text)
         self.close()
         assert not self.open, self.open
@@ -39,12 +42,18 @@ class Page(HTMLParser):
                 self.links.append(value or "")
             if name == "id":
                 self.ids.append(value or "")
+            if name == "src":
+                assert re.match(r"/[^/][^?]*/-/raw/", value or ""), f"<{tag} src={value!r}>"
+            if name == "action":
+                assert re.match(r"/([^/]|$)", value or "") and dict(attrs).get("method") == "get", attrs
+                self.forms += 1
         if tag not in VOID:
             self.open.append(tag)
             self.classes.append(dict(attrs).get("class") or "")
 
     def handle_startendtag(self, tag: str, attrs: List[Tuple[str, Optional[str]]]) -> None:
         assert tag in VOID, f"<{tag}/>"
+        self.handle_starttag(tag, attrs)
 
     def handle_endtag(self, tag: str) -> None:
         assert self.open and self.open[-1] == tag, f"</{tag}> in {self.open}"
@@ -76,12 +85,13 @@ class Reply:
     def page(self, *says: str) -> Page:
         """The page, which has to be a whole one that may do nothing, and that says this."""
         assert self.head["content-type"] == "text/html; charset=utf-8", self.head
-        assert self.head["content-security-policy"] == POLICY, self.head
         page = Page(self.body.decode("utf-8"))
+        assert self.head["content-security-policy"] == (ASKING if page.forms else POLICY), self.head
+        assert not re.search("[\x00-\x08\x0b-\x1f\x7f-\x9f\u202a-\u202e\u2066-\u2069]", page.text()), "a control character"
         for word in says:
             assert word in page.text(), (word, page.text()[:3000])
         for it in page.links:
-            assert re.match(r"(/|#|https?://|mailto:|$)", it), it
+            assert re.match(r"(/|#|\?lines=|https?://|mailto:|$)", it), it
         return page
 
 
@@ -90,7 +100,7 @@ def ask(room: ServerRoom, path: str, user: str = "", method: str = "GET", **more
     headers = {name.replace("_", "-"): value for name, value in more.items()}
     if user:
         headers["Authorization"] = room.basic(user).decode().split(": ", 1)[1].strip()
-    connection = http.client.HTTPConnection(*room.http, timeout=120)
+    connection = http.client.HTTPConnection(*room.http, timeout=300)
     try:
         connection.request(method, path, headers=headers)
         told = connection.getresponse()
@@ -122,4 +132,4 @@ def escaped(path: "str | bytes") -> str:
 
 USERS: Sequence[str] = ("", *PASSWORDS)
 
-__all__ = ["POLICY", "Page", "Reply", "USERS", "ask", "escaped", "paged"]
+__all__ = ["ASKING", "POLICY", "Page", "Reply", "USERS", "ask", "escaped", "paged"]

@@ -8,7 +8,6 @@ import re
 import resource
 import shutil
 import signal
-import socket
 import subprocess
 import threading
 import time
@@ -16,11 +15,12 @@ import urllib.request
 from typing import List, Set
 
 from keeping import Pusher, child_of
-from scenes.room import text
+from operating import free_port
+from scenes.room import text, wait_for
 from served import ServerRoom, once, over_http
 
-WAIT = 2
-"""For how many seconds a push waits for Redis."""
+WAIT = 5
+"""For how many seconds a push waits for Redis, and a question to a replica for what its leader has told."""
 
 REFUSED = (b"nothing of this push was kept", b"try again")
 """What a push says that is not there. One that says anything else may be there."""
@@ -36,9 +36,7 @@ class RedisServer:
     def __init__(self, room: ServerRoom, name: str = "redis"):
         self.folder = room.path(name)
         os.mkdir(self.folder)
-        with socket.socket() as free:
-            free.bind(("127.0.0.1", 0))
-            self.port: int = free.getsockname()[1]
+        self.port = free_port()
         self.process: "subprocess.Popen[bytes]"
         self.start()
 
@@ -69,11 +67,11 @@ class RedisServer:
 class InRedis:
     """A server whose journal is in a Redis of its own. Both end with the scene."""
 
-    def __init__(self, room: ServerRoom, key: str = "site"):
+    def __init__(self, room: ServerRoom, key: str = "site", wait: int = WAIT):
         self.room = room
         assert room.stop() == 0, room.logged()
         self.redis = RedisServer(room)
-        room.options = ["--log", f"redis://127.0.0.1:{self.redis.port}/{key}", "--log-wait", f"{WAIT}s"]
+        room.options = ["--log", f"redis://127.0.0.1:{self.redis.port}/{key}", "--log-wait", f"{wait}s"]
         self.init()
         room.start()
 
@@ -144,7 +142,7 @@ def pushed_until(pushers: List[Patient], over: threading.Event) -> List[threadin
 
 def served_again(room: ServerRoom) -> None:
     """Starts a server that is dead."""
-    room.process.wait(30)
+    room.process.wait(120)
     room.start()
 
 
@@ -242,17 +240,14 @@ def a_silent_redis_is_told(room: ServerRoom) -> None:
         assert room.tenant_refs() == told
         assert "journal-broken     true" in text(room.serverd("status", room.served))
         os.kill(it.redis.process.pid, signal.SIGCONT)
-        until = time.monotonic() + 30
-        while room.run(["git", "push", "-q", "pool", "main"], room.path(site)).returncode:
-            assert time.monotonic() < until, room.logged()[-1000:]
-        room.same(site)
+        pushed_soon(room, site)
         assert "records that it had not told of it has" in room.logged()
 
 
 @over_http
 def a_full_redis_is_told(room: ServerRoom) -> None:
     """Gives Redis no memory, and then no disk: pushes are refused or wait, reading goes on, and pushes go on when there is space."""
-    with InRedis(room) as it:
+    with InRedis(room, wait=120) as it:
         site = room.pushed()
         told = room.tenant_refs()
         room.commit(site, "More", {"f": "x"})
@@ -266,18 +261,16 @@ def a_full_redis_is_told(room: ServerRoom) -> None:
         resource.prlimit(it.redis.process.pid, resource.RLIMIT_FSIZE, (os.path.getsize(it.redis.aof()) + 50, resource.RLIM_INFINITY))
         room.commit(site, "On a full disk", {"g": os.urandom(5000).hex()})
         push = subprocess.Popen(["git", "push", "-q", "pool", "main"], cwd=room.path(site), env=room.environment, stderr=subprocess.PIPE)
-        it.redis.process.wait(20)
+        it.redis.process.wait(120)
         assert push.poll() is None
         it.redis.start()
-        assert push.wait(30) == 0, room.logged()[-1000:]
+        assert push.wait(120) == 0, room.logged()[-1000:]
         room.same(site)
 
 
 def pushed_soon(room: ServerRoom, site: str) -> None:
     """Pushes as soon as pushes are taken again."""
-    until = time.monotonic() + 30
-    while room.run(["git", "push", "-q", "pool", "main"], room.path(site)).returncode:
-        assert time.monotonic() < until, room.logged()[-1000:]
+    wait_for(lambda: room.run(["git", "push", "-q", "pool", "main"], room.path(site)).returncode == 0)
     room.same(site)
 
 
@@ -299,7 +292,7 @@ def another_machine_takes_over(room: ServerRoom) -> None:
         shutil.copy(room.path("shared.pool"), os.path.join(other, "pool"))
         room.served = other
         room.start()
-        assert first.wait(30) == 4
+        assert first.wait(300) == 4
         assert "another server has taken the log over" in room.logged()
         room.git(site, "remote", "set-url", "pool", room.url())
         room.same(site)
@@ -321,7 +314,7 @@ def a_redis_that_lost_its_end(room: ServerRoom) -> None:
         it.redis.kill()
         os.truncate(it.redis.aof(), size)
         it.redis.start()
-        assert room.process.wait(30) == 3
+        assert room.process.wait(300) == 3
         before = it.redis.ask("XRANGE", "site", "-", "+")
         done = room.run([room.server_program, "serve", room.served, "--program", room.program, *room.options])
         assert done.returncode == 3 and b"the log lost its end" in done.stderr, done.stderr

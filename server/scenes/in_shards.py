@@ -10,7 +10,7 @@ import time
 from typing import Dict, List
 
 from in_redis import WAIT, Patient, RedisServer, served_again
-from scenes.room import text
+from scenes.room import text, wait_for
 from served import ServerRoom, once, over_http
 
 ALL = ("refs/heads/*:refs/heads/*", "refs/tags/*:refs/tags/*")
@@ -178,9 +178,7 @@ def moves_under_faults(room: ServerRoom) -> None:
                 judge(pusher)
         assert mover.moved, "no tenant was moved"
         for pusher in pushers:
-            until = time.monotonic() + 30
-            while not pusher.push():
-                assert time.monotonic() < until, room.logged()[-1000:]
+            wait_for(pusher.push)
         assert room.stop() == 0, room.logged()[-1000:]
         room.start()
         for pusher in pushers:
@@ -194,8 +192,5 @@ def one_pushes(pusher: Patient, over: threading.Event) -> None:
 
 def judge(pusher: Patient) -> None:
     """Judges once the server answers again."""
-    until = time.monotonic() + 60
-    while pusher.room.run(["git", "ls-remote", pusher.room.url(pusher.tenant)]).returncode:
-        assert time.monotonic() < until, pusher.room.logged()[-1000:]
-        time.sleep(0.1)
+    wait_for(lambda: pusher.room.run(["git", "ls-remote", pusher.room.url(pusher.tenant)]).returncode == 0)
     pusher.judge()

@@ -1,6 +1,7 @@
 """Scenes of hooks that judge a push before it changes anything: pre-receive and update, as githooks(5) has them."""
 from __future__ import annotations
 
+import contextlib
 import os
 import subprocess
 import threading
@@ -10,7 +11,7 @@ from typing import List
 from commanding import command
 from guarding import commit
 from hooks import ZEROS, content, program
-from scenes.room import text
+from scenes.room import text, wait_for
 from served import ServerRoom, once, over_http, scene
 from streams_over_ssh import COMMIT, said
 
@@ -29,15 +30,21 @@ def temporary(room: ServerRoom) -> List[str]:
     return [it for it in os.listdir(os.path.join(room.served, "work")) if it.startswith("push-")]
 
 
-def is_clean(room: ServerRoom, *names: str) -> None:
-    """Asks that nothing is left of hooks: no repository and no process with one of these names in its words."""
-    assert not temporary(room), temporary(room)
+def left(room: ServerRoom, *names: str) -> List[str]:
+    """What is left of hooks: repositories, and processes with one of these names in their words."""
+    found = list(temporary(room))
     for pid in (it for it in os.listdir("/proc") if it.isdigit()):
-        try:
+        with contextlib.suppress(ProcessLookupError):
             words = content(f"/proc/{pid}/cmdline")
-        except ProcessLookupError:
-            continue
-        assert not any(name in words for name in names), words
+            found += [words] * any(name in words for name in names)
+    return found
+
+
+def is_clean(room: ServerRoom, *names: str) -> None:
+    """Asks that nothing is left of hooks, once the server has put in order what they had: a client is answered before that."""
+    with contextlib.suppress(AssertionError):
+        wait_for(lambda: not left(room, *names))
+    assert not left(room, *names), left(room, *names)
 
 
 @scene
@@ -98,6 +105,22 @@ def hooks_decline_pushes(room: ServerRoom) -> None:
     is_clean(room)
 
 
+HANGS = "the pre-receive hook took longer than {}, and was ended"
+
+
+def fails_beside_another(room: ServerRoom, limit: str, says: str, shows: str) -> bool:
+    """Pushes where a hook fails, and elsewhere meanwhile. Gives whether the push elsewhere ends first."""
+    room.serverd("limits", room.served, "hook", limit)
+    done: List[str] = []
+    pusher = threading.Thread(target=lambda: done.append(room.fails("site", "push", room.url(), "main", says="remote rejected")))
+    pusher.start()
+    room.git("other", "push", "-q", room.url("acme/elsewhere"), f"HEAD:refs/heads/x{time.monotonic_ns()}")
+    is_first = pusher.is_alive()
+    pusher.join(900)
+    assert done and says in done[0] and shows in done[0], (says, done and done[0][-500:])
+    return is_first
+
+
 @once
 def hooks_that_fail_keep_nobody(room: ServerRoom) -> None:
     """A hook that hangs, dies, prints a gigabyte, or leaves processes: a sentence each, nothing left, and nobody else waits."""
@@ -108,22 +131,17 @@ def hooks_that_fail_keep_nobody(room: ServerRoom) -> None:
     # Other scenes are played beside this one.
     mine = [f"{at}{room.ssh[1]}" for at in (4711, 4712, 4713)]
     for script, says, shows in (
-            (f"sleep {mine[0]} & sleep {mine[0]}\n", "the pre-receive hook took longer than 10s, and was ended", ""),
+            (f"sleep {mine[0]} & sleep {mine[0]}\n", HANGS, ""),
             ("kill -SEGV $$\n", "the pre-receive hook died: signal: segmentation fault", ""),
             ("yes | head -c 1000000000\nexit 1\n", DECLINED, "what the hook says beyond 65536 bytes is left out"),
-            (f"yes {mine[1]}\n", "the pre-receive hook took longer than 10s, and was ended", "is left out"),
+            (f"yes {mine[1]}\n", HANGS, "is left out"),
             (f"for i in 1 2 3 4 5 6 7 8; do sleep {mine[2]} & done; exec >&- 2>&-; exit 3\n", DECLINED, ""),
             ("cat > /dev/null; touch objects/junk; rm -rf refs; exit 1\n", DECLINED, "")):
         path = program(room, "bad", script)
-        room.serverd("limits", room.served, "hook", "60s" if "head" in script else "10s")
         room.serverd("hooks", room.served, "add", "acme/site", "pre-receive", path)
-        done: List[str] = []
-        pusher = threading.Thread(target=lambda: done.append(room.fails("site", "push", room.url(), "main", says="remote rejected")))
-        pusher.start()
-        room.git("other", "push", "-q", room.url("acme/elsewhere"), f"HEAD:refs/heads/x{time.monotonic_ns()}")
-        assert pusher.is_alive() or "took longer" not in says, "a push to another repository waits for a hook"
-        pusher.join(100)
-        assert done and says in done[0] and shows in done[0], (script, done and done[0][-500:])
+        # A push elsewhere may take longer than ten seconds on a busy machine.
+        limits = ("10s", "1m0s", "5m0s") if says == HANGS else ("10m0s",)
+        assert any(fails_beside_another(room, it, says.format(it), shows) or says != HANGS for it in limits), "a push elsewhere waits for a hook"
         room.serverd("hooks", room.served, "remove", "acme/site", "pre-receive", path)
         is_clean(room, *mine)
         assert room.tenant_refs() == before

@@ -285,7 +285,7 @@ def a_stop_while_it_starts(room: ServerRoom) -> None:
     with subprocess.Popen(words, stdout=subprocess.PIPE, stderr=subprocess.STDOUT, env=room.environment) as starting:
         wait_for(lambda: bool(set(glob.glob(children)) - left))
         starting.terminate()
-        said = starting.communicate(timeout=20)[0]
+        said = starting.communicate(timeout=300)[0]
     assert starting.returncode == 0 and b"ends before it has started" in said, (starting.returncode, said)
     assert journal_of(room) == before
     room.start()
@@ -437,7 +437,7 @@ def a_clone_during_a_save(room: ServerRoom) -> None:
         time.sleep(0.5)
         assert push.poll() is None and save.poll() is None, "a push is told while the child is stopped"
         assert room.tenant_refs()["refs/heads/main"] == room.name(site, "HEAD^")
-    assert (push.wait(60), save.wait(60)) == (0, 0), room.logged()
+    assert (push.wait(300), save.wait(300)) == (0, 0), room.logged()
     room.same(site)
     room.serverd("limits", room.served, "second-child", "1G")
     room.commit(site, "Later", {"small": "y"})
@@ -446,7 +446,7 @@ def a_clone_during_a_save(room: ServerRoom) -> None:
         clone = subprocess.Popen(["git", "clone", "-q", room.url(), room.path("waits")], env=room.environment)
         time.sleep(0.5)
         assert clone.poll() is None, "the stopped child answers"
-    assert clone.wait(60) == 0, room.logged()
+    assert clone.wait(300) == 0, room.logged()
     kill(room, "both")
     room.same(site)
 
@@ -463,7 +463,7 @@ def a_stopped_save(room: ServerRoom) -> Iterator["subprocess.Popen[bytes]"]:
         yield save
     finally:
         os.kill(child, signal.SIGCONT)
-        save.wait(60)
+        save.wait(300)
 
 
 def authorized(room: ServerRoom, path: str) -> urllib.request.Request:

@@ -18,7 +18,7 @@ from served import PASSWORDS, ServerRoom, line, once, over_http
 HERE = os.path.dirname(os.path.realpath(__file__))
 JARS = [f"/usr/share/java/{it}.jar" for it in ("org.eclipse.jgit", "jsch", "slf4j-api", "slf4j-nop", "javaewah")]
 # How long a client may take for a task, on a machine that is busy. A server that waits for the client to close its side takes 60 seconds.
-PATIENCE = 30
+PATIENCE = 50
 
 
 class Library:
@@ -186,8 +186,9 @@ def jgit_is_a_client(room: ServerRoom) -> None:
         refusals(room, client)
 
 
-# No longer than this may a client wait that keeps its side open, on a machine that is busy. On an idle one it has its report within a tenth of it.
-SOON = 5
+# No longer than this may a client wait that keeps its side open, on a machine that is busy: a server that waits for it ends after a minute.
+# On an idle one it has its report within half a second.
+SOON = 50
 
 
 @contextlib.contextmanager

@@ -11,7 +11,7 @@ from typing import Callable, List
 from keeping import crashed
 from served import ServerRoom, over_http, text
 
-LISTS = ("access", "groups", "tokens", "passwords", "keys", "limits", "hooks", "owners", "blocked", "protected")
+LISTS = ("access", "groups", "tokens", "passwords", "keys", "limits", "hooks", "owners", "blocked", "protected", "descriptions")
 
 
 def contents(path: str) -> bytes:
@@ -27,7 +27,7 @@ def write(path: str, data: bytes) -> None:
 def is_refused(room: ServerRoom, says: str, *words: str) -> None:
     """Asks that a command ends with 3 and a sentence."""
     given = ["--program", room.program] if words[0] in ("init", "serve") else []
-    done = subprocess.run([room.server_program, *words, *given], capture_output=True, env=room.environment, timeout=60)
+    done = subprocess.run([room.server_program, *words, *given], capture_output=True, env=room.environment, timeout=300)
     assert done.returncode == 3 and says in text(done.stderr), (words, done.returncode, text(done.stderr))
 
 

@@ -6,6 +6,7 @@ import signal
 import subprocess
 import time
 
+from scenes.room import wait_for
 from served import ServerRoom, once, scene, text
 
 
@@ -166,9 +167,8 @@ def a_push_that_is_cut(room: ServerRoom) -> None:
         os.killpg(process.pid, signal.SIGKILL)
         process.wait()
         assert room.tenant_refs()["refs/heads/main"] in (before["refs/heads/main"], room.name(site, "main"))
-    # One that was killed right after its last byte may come through just now, and this one is refused then.
-    room.run(["git", "push", "-q", "pool", "main"], site)
-    room.git(site, "push", "-q", "pool", "main")
+    # Those that were killed right after their last bytes may come through just now, and this one is refused then.
+    wait_for(lambda: room.run(["git", "push", "-q", "pool", "main"], site).returncode == 0)
     room.same(site)
 
 

@@ -36,7 +36,7 @@ def serving(room: ServerRoom, *words: str) -> Iterator[str]:
         yield log
     finally:
         server.terminate()
-        assert server.wait(60) == 0, logged(log)
+        assert server.wait(300) == 0, logged(log)
     room.start()
 
 
@@ -102,7 +102,7 @@ def plain_http_is_sent_to_https(room: ServerRoom) -> None:
         assert "authorization:" not in before and "send header: authorization: basic" in after, sent[-3000:]
         for path in ("/metrics", "/acme/site", "/.well-known/acme-challenge/x"):
             try:
-                urllib.request.build_opener(NoRedirect()).open(f"http://127.0.0.1:{plain}{path}", timeout=20)
+                urllib.request.build_opener(NoRedirect()).open(f"http://127.0.0.1:{plain}{path}", timeout=300)
                 raise AssertionError(f"{path} is answered over plain http")
             except urllib.error.HTTPError as error:
                 assert error.code == 308 and error.headers["Location"] == f"https://127.0.0.1:{port}{path}", (error.code, error.headers)

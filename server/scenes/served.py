@@ -64,7 +64,7 @@ class ServerRoom(Room):
         before = os.path.getsize(self.log) if os.path.exists(self.log) else 0
         with open(self.log, "ab") as log:
             self.process = subprocess.Popen(words, stderr=log, stdout=log, env=self.environment, start_new_session=True)
-        until = time.monotonic() + 120
+        until = time.monotonic() + 300
         while True:
             found = self._addresses(before)
             if found:
@@ -86,7 +86,7 @@ class ServerRoom(Room):
     def stop(self) -> int:
         """Ends the server as an operator would, and gives its status."""
         self.process.send_signal(signal.SIGTERM)
-        return self.process.wait(120)
+        return self.process.wait(300)
 
     def close(self) -> None:
         """Ends the server and removes the folder."""
@@ -160,7 +160,7 @@ class ServerRoom(Room):
 
     def socket(self) -> socket.socket:
         """A connection to the http port."""
-        return socket.create_connection(self.http, timeout=120)
+        return socket.create_connection(self.http, timeout=300)
 
     def basic(self, user: str = "alice") -> bytes:
         """The header of a user's password."""

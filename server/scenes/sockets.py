@@ -117,7 +117,7 @@ def a_forced_command_asks_the_server(room: ServerRoom) -> None:
     silent = subprocess.Popen(["gitpool-shell", "--pool", room.pool, "--idle", "0.2", "acme/site", "push"], env=room.environment,
                               cwd=room.path(""), stdin=subprocess.PIPE, stdout=subprocess.PIPE, stderr=subprocess.PIPE)
     assert silent.stdin and silent.stderr
-    assert silent.wait(20) == 1 and b"nothing came for" in silent.stderr.read()
+    assert silent.wait(300) == 1 and b"nothing came for" in silent.stderr.read()
     for it in (silent.stdin, silent.stdout, silent.stderr):
         assert it
         it.close()

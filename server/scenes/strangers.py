@@ -24,7 +24,7 @@ def by_ssh(room: ServerRoom, key: str, login: str, command: str, data: bytes = b
     """Runs a command over ssh with one key."""
     words = ["ssh", "-F", "none", "-i", key, "-o", "IdentitiesOnly=yes", "-o", "StrictHostKeyChecking=no", "-o", "UserKnownHostsFile=/dev/null",
              "-o", "LogLevel=ERROR", "-o", "BatchMode=yes", "-p", str(room.ssh[1]), f"{login}@{room.ssh[0]}", command]
-    return subprocess.run(words, input=data, capture_output=True, env=room.environment, timeout=120)
+    return subprocess.run(words, input=data, capture_output=True, env=room.environment, timeout=300)
 
 
 UPLOAD, RECEIVE = "git-upload-pack '/acme/site.git'", "git-receive-pack '/acme/site.git'"
@@ -167,7 +167,7 @@ def noise_to_ssh(room: ServerRoom) -> None:
     room.serverd("limits", room.served, "handshake", "3s")
     before = room.tenant_refs()
     for what, data in noises():
-        with socket.create_connection(room.ssh, timeout=60) as peer:
+        with socket.create_connection(room.ssh, timeout=300) as peer:
             try:
                 peer.sendall(data)
             except (BrokenPipeError, ConnectionResetError):
@@ -196,8 +196,8 @@ def sessions_of_one_connection(room: ServerRoom) -> None:
             heads.append(it.stdout.read(4))
         assert sum(1 for it in heads if it) == 10, heads
         for it in held:
-            it.communicate(b"0000", timeout=60)
-        many = subprocess.run([*ssh, "-o", "SendEnv=*", host, UPLOAD], input=b"0000", capture_output=True, timeout=60,
+            it.communicate(b"0000", timeout=300)
+        many = subprocess.run([*ssh, "-o", "SendEnv=*", host, UPLOAD], input=b"0000", capture_output=True, timeout=300,
                               env=dict(room.environment, **{f"V{at}": "x" * 1000 for at in range(500)}, GIT_PROTOCOL="version=2:" * 3000))
         assert many.returncode in (0, 255), many
     finally:

@@ -58,7 +58,7 @@ class Walk:
     def stops(self) -> None:
         """Stops the server, which saves."""
         self.servers[-1].terminate()
-        assert self.servers[-1].wait(60) == 0
+        assert self.servers[-1].wait(300) == 0
 
     def url(self, login: str, secret: str) -> str:
         """The address of the repository for a login over https."""

@@ -80,7 +80,7 @@ func (u Use) Serve(ctx context.Context, isStateless bool) error {
 	defer held.Free()
 	if u.Service == UploadPack {
 		in := bufio.NewReaderSize(u.In, 1<<16)
-		server := uploadpack.Server{MaySend: u.mayGoOn, Lines: held, Memory: u.memory}
+		server := uploadpack.Server{MaySend: u.mayGoOn, Lines: held, Memory: u.memory, Packs: u.Site.Packs}
 		return server.Serve(ctx, u.Tenant, in, u.Out, u.Version, isStateless)
 	}
 	in := bufio.NewReaderSize(&refusing{from: u.In, mayGoOn: u.mayGoOn}, 1<<16)

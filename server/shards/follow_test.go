@@ -13,6 +13,7 @@ import (
 	"time"
 
 	"gitpoold/answers"
+	"gitpoold/await"
 	"gitpoold/journal"
 	"gitpoold/redistest"
 	"gitpoold/store"
@@ -74,7 +75,7 @@ func stopsWith(t testing.TB, why chan error, says string) {
 		if !strings.Contains(err.Error(), says) {
 			t.Fatalf("it stops with %v, and should say %q", err, says)
 		}
-	case <-time.After(30 * time.Second):
+	case <-time.After(await.Longest):
 		t.Fatal("the server goes on")
 	}
 }
@@ -82,15 +83,17 @@ func stopsWith(t testing.TB, why chan error, says string) {
 // leads waits until one of several servers takes pushes, and gives it.
 func leads(t testing.TB, all ...*Set) *Set {
 	t.Helper()
-	for until := time.Now().Add(30 * time.Second); time.Now().Before(until); time.Sleep(5 * time.Millisecond) {
+	var leader *Set
+	await.Until(t, "one who takes the logs over", func() bool {
 		for _, it := range all {
 			if it.Follows() == nil {
-				return it
+				leader = it
+				return true
 			}
 		}
-	}
-	t.Fatal("nobody takes the logs over")
-	return nil
+		return false
+	})
+	return leader
 }
 
 // TestAReplicaFollowsMoves moves tenants to and fro while a replica follows and is asked: it answers with all that was told, and comes to the
@@ -245,7 +248,8 @@ func TestOneOfTwoReplicasTakesOver(t *testing.T) {
 	_, err = open.Feed(background, []byte("commit refs/heads/main\ncommitter a <a@b> 1 +0000\ndata 4\nlost\n"))
 	must(t, err)
 	must(t, push(leader, "b", "m1"))
-	const silence = 1500 * time.Millisecond
+	// A server that lives writes something each second, or a few seconds later on a busy machine.
+	const silence = 5 * time.Second
 	replicas := []*Set{opened(t, followerOf(t, c, silence)), opened(t, followerOf(t, c, silence))}
 	time.Sleep(silence + time.Second/2)
 	if replicas[0].Follows() == nil || replicas[1].Follows() == nil {
@@ -299,11 +303,7 @@ func TestAReplicaIsLeftBehind(t *testing.T) {
 	pid := state.ChildPid
 	must(t, syscall.Kill(pid, syscall.SIGSTOP))
 	must(t, push(leader, "a", "m"))
-	for until := time.Now().Add(20 * time.Second); follower.States()[0].Records == state.Records; time.Sleep(time.Millisecond) {
-		if time.Now().After(until) {
-			t.Fatal("the replica takes no records")
-		}
-	}
+	await.Until(t, "a replica that takes records", func() bool { return follower.States()[0].Records != state.Records })
 	want := []string{"m"}
 	for i := 0; i < 10; i++ {
 		must(t, push(leader, "a", fmt.Sprint("m", i)))

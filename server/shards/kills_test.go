@@ -11,6 +11,7 @@ import (
 	"testing"
 	"time"
 
+	"gitpoold/await"
 	"gitpoold/store"
 )
 
@@ -50,7 +51,7 @@ func moves(folder string) {
 // pushAndTell pushes until that is told. What a try whose child died came to is asked of the tenant.
 func pushAndTell(s *Set, tenant, text string) {
 	fmt.Println("began", tenant, text)
-	for until := time.Now().Add(30 * time.Second); time.Now().Before(until); time.Sleep(time.Millisecond) {
+	for until := time.Now().Add(await.Longest); time.Now().Before(until); time.Sleep(time.Millisecond) {
 		if err := push(s, tenant, text); err == nil {
 			fmt.Println("told", tenant, text)
 			return
@@ -65,7 +66,7 @@ func killed(t *testing.T, folder, fault, log string) string {
 	command.Env = append(os.Environ(), "GITPOOLD_FAULT="+fault, "GITPOOLD_FAULT_LOG="+log)
 	var out, said bytes.Buffer
 	command.Stdout, command.Stderr = &out, &said
-	timer := time.AfterFunc(120*time.Second, func() { command.Process.Kill() })
+	timer := time.AfterFunc(5*await.Longest, func() { command.Process.Kill() })
 	err := command.Run()
 	if !timer.Stop() || err != nil && !strings.Contains(err.Error(), "killed") {
 		t.Fatalf("%s: %v\n%s%s", fault, err, out.String(), said.String())

@@ -8,13 +8,13 @@ import (
 	"os"
 	"os/exec"
 	"path/filepath"
-	"runtime"
 	"strings"
 	"sync"
 	"sync/atomic"
 	"testing"
 	"time"
 
+	"gitpoold/await"
 	"gitpoold/child"
 	"gitpoold/frames"
 	"gitpoold/journal"
@@ -308,11 +308,15 @@ func TestACopyIsOfOneState(t *testing.T) {
 // late is a journal that syncs when it is told to, and counts how often it was resumed.
 type late struct {
 	journal.Journal
+	begun   chan struct{}
 	syncs   chan error
 	resumed atomic.Int64
 }
 
-func (l *late) Sync(uint64) error { return <-l.syncs }
+func (l *late) Sync(uint64) error {
+	l.begun <- struct{}{}
+	return <-l.syncs
+}
 
 func (l *late) Resume() { l.resumed.Add(1) }
 
@@ -320,12 +324,12 @@ func (l *late) Resume() { l.resumed.Add(1) }
 func TestATableIsReadAgainAfterItsWriters(t *testing.T) {
 	s := opened(t, inFiles(t, 2))
 	defer s.Close(background)
-	log := &late{Journal: s.table.journal, syncs: make(chan error)}
+	log := &late{Journal: s.table.journal, begun: make(chan struct{}, 1), syncs: make(chan error)}
 	s.table.journal = log
 	defer func() { s.table.journal = log.Journal }()
 	told, read := make(chan error, 1), make(chan struct{})
 	go func() { told <- s.table.put("a", 1) }()
-	time.Sleep(20 * time.Millisecond)
+	await.From(t, "a writer that syncs", log.begun)
 	go func() {
 		s.readAgain(s.table)
 		close(read)
@@ -427,11 +431,7 @@ func TestATenantOfUnknownPlaceStays(t *testing.T) {
 		}
 	}
 	s.readAgain(s.table)
-	for until := time.Now().Add(20 * time.Second); len(s.table.pending()) > 0; time.Sleep(10 * time.Millisecond) {
-		if time.Now().After(until) {
-			t.Fatal("the move is not settled")
-		}
-	}
+	await.Until(t, "the end of the move", func() bool { return len(s.table.pending()) == 0 })
 	if s.ShardOf("a") != 3-from {
 		t.Fatal("the tenant was not moved")
 	}
@@ -477,29 +477,26 @@ func TestATenantIsSettledByOne(t *testing.T) {
 	must(t, push(s, "a", "m0"))
 	must(t, s.table.note(frames.Step{Kind: journal.Moving, Tenant: "a", Body: bodyOf(3 - s.ShardOf("a"))}))
 	s.operator <- struct{}{}
-	before := runtime.NumGoroutine()
+	before := await.Goroutines()
 	for range make([]int, 50) {
 		s.readAgain(s.table)
 	}
-	if more := runtime.NumGoroutine() - before; more > 1 {
-		t.Errorf("%d goroutines settle one tenant", more)
-	}
+	// One of them settles the tenant, and waits for the operator's turn.
+	await.NoMore(t, before+1)
 	<-s.operator
-	for until := time.Now().Add(20 * time.Second); len(s.table.pending()) > 0; time.Sleep(10 * time.Millisecond) {
-		if time.Now().After(until) {
-			t.Fatal("the move is not settled")
-		}
-	}
+	await.Until(t, "the end of the move", func() bool { return len(s.table.pending()) == 0 })
 	must(t, s.Close(background))
 }
 
-// placing gives places to new tenants until it is stopped, and gives those that were told.
+// placing gives places to new tenants until it is stopped and has been told of one, and gives those that were told.
 func placing(s *Set, at int, stop <-chan struct{}) map[string]int {
 	told := map[string]int{}
 	for count := 0; ; count++ {
 		select {
 		case <-stop:
-			return told
+			if len(told) > 0 {
+				return told
+			}
 		default:
 		}
 		tenant := fmt.Sprintf("t%d-%d", at, count)
@@ -825,7 +822,7 @@ func TestALostEndStopsAllShards(t *testing.T) {
 		if !errors.As(err, &bad) || bad.IsTaken {
 			t.Fatal(err)
 		}
-	case <-time.After(30 * time.Second):
+	case <-time.After(await.Longest):
 		t.Fatal("the server goes on")
 	}
 	for number, tenant := range map[int]string{s.ShardOf("a"): "a", s.ShardOf("b"): "b"} {
@@ -860,12 +857,8 @@ func TestATableWhoseRedisIsAwayComesBack(t *testing.T) {
 		t.Fatal("a new tenant without a table")
 	}
 	servers[0].Restart()
-	for until := time.Now().Add(30 * time.Second); push(s, "new", "m0") != nil || s.Move(background, there, 1) != nil; {
-		if time.Now().After(until) {
-			t.Fatal("the table does not come back")
-		}
-		time.Sleep(50 * time.Millisecond)
-	}
+	await.Until(t, "a table that is back", func() bool { return push(s, "new", "m0") == nil })
+	await.Until(t, "a move", func() bool { return s.Move(background, there, 1) == nil })
 	isIn(t, s, there, 1)
 	hasMessages(t, s, there, "m0", "m1")
 	must(t, push(s, there, "m2"))

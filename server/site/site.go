@@ -8,12 +8,16 @@ import (
 	"time"
 
 	"gitpoold/access"
+	"gitpoold/catalogue"
 	"gitpoold/daily"
 	"gitpoold/hooks"
+	"gitpoold/lfs"
 	"gitpoold/limits"
 	"gitpoold/logs"
 	"gitpoold/metrics"
 	"gitpoold/owners"
+	"gitpoold/packcache"
+	"gitpoold/pages"
 	"gitpoold/protect"
 	"gitpoold/quarantine"
 	"gitpoold/tenants"
@@ -45,12 +49,18 @@ type Site struct {
 	Owners *owners.Owners
 	// Daily counts what users take in a day; nil counts nothing.
 	Daily *daily.Ledger
+	// Catalogue has what the list of repositories says of each; nil says nothing.
+	Catalogue *catalogue.Catalogue
 	// Hooks are told of pushes; nil has none.
 	Hooks *hooks.Hooks
 	// Protected has the refs that may not change in every way; nil has none.
 	Protected *protect.Protected
 	// Views lets hooks that judge pushes read them by git; nil where no hook does.
 	Views *quarantine.Views
+	// LFS has the large files of tenants; nil has none.
+	LFS *lfs.Store
+	// Packs keeps packs for clones; nil keeps none.
+	Packs *packcache.Cache
 	// Mirrors are tenants that are the same as repositories elsewhere; nil has none.
 	Mirrors Mirrors
 	// Work is a folder for files that requests need while they last; the server empties it when it starts. Where it is "", they go to
@@ -62,10 +72,14 @@ type Site struct {
 	Elsewhere func() error
 	// SSHPort is where git finds the server over ssh, 0 where it does not; pages show it.
 	SSHPort int
+	// URL is that of the server over http, as far as its options say it, or "".
+	URL string
 	// Folder is the server's, which has the audit of operators; "" has none.
 	Folder string
 	// Markdown writes a README for pages; nil shows it as text.
 	Markdown func(contents []byte, resolve func(path, fragment string, isImage bool) string) (string, error)
+	// Highlight parts a file by colours for pages; nil shows it without.
+	Highlight pages.Highlight
 }
 
 // Mirrors are what the package mirrors keeps.
@@ -143,8 +157,8 @@ func (s *Site) Watch(ctx context.Context, user, tenant string, right access.Righ
 	return watched, stop
 }
 
-// Read reads the lists of the operator again that belong to one of these: access, limits, hooks, protected or mirrors. The error says why they cannot be read, so that
-// what was read before holds.
+// Read reads the lists of the operator again that belong to one of these: access, limits, hooks, protected, lfs or mirrors. The error says why they
+// cannot be read, so that what was read before holds.
 func (s *Site) Read(list string) error {
 	of := map[string]interface{ Unread() error }{"access": s.Access, "limits": s.Limits}
 	if s.Hooks != nil {
@@ -152,6 +166,12 @@ func (s *Site) Read(list string) error {
 	}
 	if s.Protected != nil {
 		of[protect.FileName] = s.Protected
+	}
+	if s.LFS != nil {
+		of[lfs.ListName] = s.LFS
+	}
+	if s.Catalogue != nil {
+		of[catalogue.FileName] = s.Catalogue
 	}
 	if s.Mirrors != nil {
 		of["mirrors"] = s.Mirrors
@@ -171,6 +191,12 @@ func (s *Site) Unread() (all []error) {
 	}
 	if s.Protected != nil {
 		of = append(of, protect.FileName)
+	}
+	if s.LFS != nil {
+		of = append(of, lfs.ListName)
+	}
+	if s.Catalogue != nil {
+		of = append(of, catalogue.FileName)
 	}
 	if s.Mirrors != nil {
 		of = append(of, "mirrors")
@@ -196,7 +222,18 @@ func (s *Site) Changed(address string, push hooks.Push) {
 	if s.Hooks != nil && len(push.Changes) > 0 {
 		s.Hooks.Tell(push)
 	}
+	if len(push.Changes) > 0 {
+		s.Catalogue.Note(push.Tenant)
+	}
 	if s.Mirrors != nil && len(push.Changes) > 0 {
 		s.Mirrors.Pushed(push.Tenant)
 	}
+}
+
+// PublicURL is at which address users find the server over http: as the operator says it, or as the server's options do; "" where nobody does.
+func (s *Site) PublicURL() string {
+	if said := s.Limits.Get().PublicURL; said != "" {
+		return said
+	}
+	return s.URL
 }

@@ -5,8 +5,8 @@ import (
 	"path/filepath"
 	"strings"
 	"testing"
-	"time"
 
+	"gitpoold/await"
 	"gitpoold/frames"
 )
 
@@ -38,11 +38,7 @@ func TestFramesOfAUserWhoIsNoLongerLetIn(t *testing.T) {
 		defer close(ended)
 		_ = it.client.Wait()
 	}()
-	select {
-	case <-ended:
-	case <-time.After(20 * time.Second):
-		t.Error("the connection is open still")
-	}
+	await.From(t, "the end of the connection", ended)
 	if strings.Count(it.said.String(), "no longer valid") != 1 {
 		t.Error(it.said.String())
 	}

@@ -9,7 +9,6 @@ import (
 	"net"
 	"os"
 	"path/filepath"
-	"runtime"
 	"sync/atomic"
 	"testing"
 	"time"
@@ -17,6 +16,7 @@ import (
 	"golang.org/x/crypto/ssh"
 
 	"gitpoold/access"
+	"gitpoold/await"
 	"gitpoold/child"
 	"gitpoold/frames"
 	"gitpoold/limits"
@@ -96,7 +96,7 @@ func check(t *testing.T, err error) {
 
 // TestAConnectionWithoutSessionsEnds has a client that keeps its connection after its sessions, and sends something again and again.
 func TestAConnectionWithoutSessionsEnds(t *testing.T) {
-	it := hosted(t, "idle 3s\nhandshake 20s\n")
+	it := hosted(t, "idle 6s\nhandshake 1m\n")
 	client, err := ssh.Dial("tcp", it.address, it.config)
 	check(t, err)
 	defer client.Close()
@@ -106,14 +106,11 @@ func TestAConnectionWithoutSessionsEnds(t *testing.T) {
 		_ = session.Run("ls")
 		session.Close()
 	}
-	for until := time.Now().Add(30 * time.Second); ; time.Sleep(50 * time.Millisecond) {
-		if _, _, err := client.SendRequest("keepalive@openssh.com", true, nil); err != nil {
-			return
-		}
-		if time.Now().After(until) {
-			t.Fatal("the connection is open still")
-		}
-	}
+	await.Until(t, "the end of the connection", func() bool {
+		time.Sleep(50 * time.Millisecond)
+		_, _, err := client.SendRequest("keepalive@openssh.com", true, nil)
+		return err != nil
+	})
 }
 
 // TestAClientThatWaitsIsNotIdle has a server that takes longer for an answer than a client may be silent; and then a client that is silent when the
@@ -136,18 +133,22 @@ func TestAClientThatWaitsIsNotIdle(t *testing.T) {
 	}
 	ended := make(chan error, 1)
 	go func() { ended <- client.Wait() }()
-	select {
-	case <-ended:
-	case <-time.After(30 * time.Second):
-		t.Fatal("a client that sends nothing keeps its session")
-	}
+	await.From(t, "the end of a client that sends nothing", ended)
+}
+
+// settled gives how many goroutines there are once the server has served a connection, and that has ended.
+func (g guest) settled(t *testing.T) int {
+	t.Helper()
+	client, err := ssh.Dial("tcp", g.address, g.config)
+	check(t, err)
+	check(t, client.Close())
+	return await.Goroutines()
 }
 
 // TestBrokenConnectionsLeaveNothing breaks 1,000 connections off before, in and after the handshake.
 func TestBrokenConnectionsLeaveNothing(t *testing.T) {
-	it := hosted(t, "handshake 2s\n")
-	time.Sleep(50 * time.Millisecond)
-	before := runtime.NumGoroutine()
+	it := hosted(t, "handshake 30s\n")
+	before := it.settled(t)
 	for at := 0; at < 1000; at++ {
 		conn, err := net.Dial("tcp", it.address)
 		check(t, err)
@@ -159,7 +160,7 @@ func TestBrokenConnectionsLeaveNothing(t *testing.T) {
 		}
 		conn.Close()
 	}
-	asBefore(t, before)
+	await.NoMore(t, before)
 }
 
 // deaf is the connection of a client that does not hear, once it is to be so, what the server says: that a channel is closed, above all.
@@ -201,9 +202,8 @@ func (g guest) deafened(t *testing.T) (ssh.Channel, <-chan struct{}) {
 
 // TestRequestsAfterAShellLeaveNothing sends more requests after `shell` than a channel keeps, and does not close it.
 func TestRequestsAfterAShellLeaveNothing(t *testing.T) {
-	it := hosted(t, "idle 2s\ndrain 1s\n")
-	time.Sleep(50 * time.Millisecond)
-	before := runtime.NumGoroutine()
+	it := hosted(t, "idle 5s\ndrain 1s\n")
+	before := it.settled(t)
 	channel, ended := it.deafened(t)
 	_, err := channel.SendRequest("shell", false, nil)
 	check(t, err)
@@ -211,23 +211,19 @@ func TestRequestsAfterAShellLeaveNothing(t *testing.T) {
 		_, err := channel.SendRequest("env", false, nil)
 		check(t, err)
 	}
-	select {
-	case <-ended:
-	case <-time.After(20 * time.Second):
-		t.Fatal("the connection is open still")
-	}
-	asBefore(t, before)
+	await.From(t, "the end of the connection", ended)
+	await.NoMore(t, before)
 }
 
 // TestAClosedChannelKeepsNoConnection has clients that do not heed that the server closes their channel, and send more and more: one that says no
 // command, and one whose command failed.
 func TestAClosedChannelKeepsNoConnection(t *testing.T) {
 	t.Run("without a command", func(t *testing.T) {
-		channel, ended := hosted(t, "handshake 3s\nidle 1m\ndrain 1s\n").deafened(t)
+		channel, ended := hosted(t, "handshake 8s\nidle 1m\ndrain 1s\n").deafened(t)
 		sendUntil(t, ended, func() { _, _ = channel.SendRequest("env", false, nil) })
 	})
 	t.Run("after a command", func(t *testing.T) {
-		channel, ended := hosted(t, "idle 3s\ndrain 1s\n").deafened(t)
+		channel, ended := hosted(t, "idle 5s\ndrain 1s\n").deafened(t)
 		_, err := channel.SendRequest("exec", false, ssh.Marshal(struct{ Command string }{"ls"}))
 		check(t, err)
 		sendUntil(t, ended, func() { _, _ = channel.Write([]byte("x")) })
@@ -237,7 +233,7 @@ func TestAClosedChannelKeepsNoConnection(t *testing.T) {
 // sendUntil sends again and again until the connection has ended.
 func sendUntil(t *testing.T, ended <-chan struct{}, send func()) {
 	t.Helper()
-	for began := time.Now(); time.Since(began) < 20*time.Second; {
+	for began := time.Now(); time.Since(began) < await.Longest; {
 		select {
 		case <-ended:
 			return
@@ -250,7 +246,7 @@ func sendUntil(t *testing.T, ended <-chan struct{}, send func()) {
 
 // TestASessionAtWorkKeepsItsConnection has a session without a command beside one that waits for its answer for longer than the first one may.
 func TestASessionAtWorkKeepsItsConnection(t *testing.T) {
-	it := hosted(t, "handshake 3s\n")
+	it := hosted(t, "handshake 5s\n")
 	client, err := ssh.Dial("tcp", it.address, it.config)
 	check(t, err)
 	defer client.Close()
@@ -273,20 +269,13 @@ func TestASessionAtWorkKeepsItsConnection(t *testing.T) {
 	}
 }
 
-// asBefore waits until there are no more goroutines than before.
-func asBefore(t *testing.T, before int) {
-	t.Helper()
-	for until := time.Now().Add(20 * time.Second); runtime.NumGoroutine() > before; time.Sleep(10 * time.Millisecond) {
-		if time.Now().After(until) {
-			text := make([]byte, 1<<20)
-			t.Fatalf("%d goroutines are left:\n%s", runtime.NumGoroutine()-before, text[:runtime.Stack(text, true)])
-		}
-	}
-}
-
-// TestARefusedClientMaySendItsRest has a client whose command is refused while it sends for more than a second, and which keeps its side open then.
+// TestARefusedClientMaySendItsRest has a client whose command is refused while it sends for longer than it may be quiet, and which keeps its
+// side open then. It may be quiet for longer than by default, so that a busy machine holds none of its parts up for as long.
 func TestARefusedClientMaySendItsRest(t *testing.T) {
-	it := hosted(t, "idle 30s\n")
+	const quiet = 5 * time.Second
+	before := sshd.SetQuiet(quiet)
+	t.Cleanup(func() { sshd.SetQuiet(before) })
+	it := hosted(t, "idle 1m\n")
 	client, err := ssh.Dial("tcp", it.address, it.config)
 	check(t, err)
 	defer client.Close()
@@ -295,20 +284,16 @@ func TestARefusedClientMaySendItsRest(t *testing.T) {
 	in, err := session.StdinPipe()
 	check(t, err)
 	check(t, session.Start("ls"))
-	for left := 20; left > 0; left-- {
+	for began := time.Now(); time.Since(began) < quiet+time.Second; {
 		_, err := in.Write(make([]byte, 32<<10))
 		check(t, err)
 		time.Sleep(100 * time.Millisecond)
 	}
 	ended := make(chan error, 1)
 	go func() { ended <- session.Wait() }()
-	select {
-	case err := <-ended:
-		var exit *ssh.ExitError
-		if !errors.As(err, &exit) || exit.ExitStatus() != 2 {
-			t.Fatal(err)
-		}
-	case <-time.After(20 * time.Second):
-		t.Fatal("the session is open still")
+	err = await.From(t, "the end of the session", ended)
+	var exit *ssh.ExitError
+	if !errors.As(err, &exit) || exit.ExitStatus() != 2 {
+		t.Fatal(err)
 	}
 }

@@ -9,6 +9,8 @@ import (
 	"time"
 
 	"golang.org/x/crypto/ssh"
+
+	"gitpoold/await"
 )
 
 // queueing is a channel of a library that takes all that it is given at once, and sends none of it.
@@ -65,13 +67,13 @@ func TestAQueueInTheLibraryIsBounded(t *testing.T) {
 			}(to)
 		}
 	}
-	soon(t, "nothing is queued", func() bool { return queue.queued.Load() >= mostAhead })
+	await.Until(t, "a queue", func() bool { return queue.queued.Load() >= mostAhead })
 	if queued := queue.waits(); queued > mostAhead+2*writers*longestGiven {
 		t.Fatalf("%d bytes are queued", queued)
 	}
 	// What the socket takes lets as much follow, and no more: heads and padding give no credit.
 	_, _ = socket.Write(make([]byte, 64<<20))
-	soon(t, "a writer waits for a socket that has taken all", func() bool { return queue.queued.Load() >= 2*mostAhead })
+	await.Until(t, "what waits for a socket that has taken all", func() bool { return queue.queued.Load() >= 2*mostAhead })
 	if queued := queue.waits(); queued > 2*(mostAhead+2*writers*longestGiven) {
 		t.Fatalf("%d bytes are queued after the socket has taken some", queued)
 	}

@@ -113,7 +113,7 @@ func (s *session) exit(status uint32) {
 }
 
 // quiet is how long a client may send nothing before it is taken for one that waits for the end of the session.
-const quiet = time.Second
+var quiet = time.Second
 
 // awaitEnd reads on until the client ends its side, or has sent nothing for a second; within Idle in all. A git that writes to an ssh that has gone dies
 // of SIGPIPE before it shows what the server said. What comes then is dropped, and does not count: the connection ends as one without sessions.
@@ -188,8 +188,8 @@ func (s *session) run(ctx context.Context, payload []byte) uint32 {
 	if it, ok := parseVerb(exec.Command); ok {
 		return s.runVerb(ctx, it)
 	}
-	if isLFS(exec.Command) {
-		return s.say(services.NoLFS)
+	if words, ok := parseLFS(exec.Command); ok {
+		return s.runLFS(words)
 	}
 	service, path, ok := parseCommand(exec.Command)
 	if !ok {
@@ -306,12 +306,6 @@ func parseCommand(command string) (service, path string, ok bool) {
 		}
 	}
 	return "", "", false
-}
-
-// isLFS tells whether a client of Git LFS asks for its ways to send and fetch files.
-func isLFS(command string) bool {
-	name, _, _ := strings.Cut(command, " ")
-	return name == "git-lfs-authenticate" || name == "git-lfs-transfer"
 }
 
 // unquote reads one word: parts between single quotes, and between them \' and \!. A word of plain letters needs no quotes.

@@ -5,10 +5,10 @@ import (
 	"os"
 	"path/filepath"
 	"testing"
-	"time"
 
 	"golang.org/x/crypto/ssh"
 
+	"gitpoold/await"
 	"gitpoold/limits"
 	"gitpoold/site"
 )
@@ -56,9 +56,5 @@ func TestASentenceThatIsNotTaken(t *testing.T) {
 		defer close(said)
 		s.say("no")
 	}()
-	select {
-	case <-said:
-	case <-time.After(20 * time.Second):
-		t.Fatal("the connection is open still")
-	}
+	await.From(t, "the end of the sentence", said)
 }

@@ -12,7 +12,6 @@ import (
 	"os/exec"
 	"path/filepath"
 	"testing"
-	"time"
 
 	"golang.org/x/crypto/ssh"
 
@@ -186,14 +185,4 @@ func alone(t testing.TB, pool string, input []byte, words ...string) done {
 		t.Fatal(err)
 	}
 	return done{command.ProcessState.ExitCode(), string(out), said.String()}
-}
-
-// soon waits until something holds.
-func soon(t testing.TB, what string, holds func() bool) {
-	t.Helper()
-	for until := time.Now().Add(20 * time.Second); !holds(); time.Sleep(5 * time.Millisecond) {
-		if time.Now().After(until) {
-			t.Fatal(what)
-		}
-	}
 }

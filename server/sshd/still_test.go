@@ -8,11 +8,11 @@ import (
 	"path/filepath"
 	"strings"
 	"testing"
-	"time"
 
 	"golang.org/x/crypto/ssh"
 
 	"gitpoold/access"
+	"gitpoold/await"
 )
 
 // isLetIn has a session over an open connection, and tells whether its command was looked at: `ls` is none.
@@ -44,11 +44,7 @@ func ends(t *testing.T, client *ssh.Client) {
 		defer close(ended)
 		_ = client.Wait()
 	}()
-	select {
-	case <-ended:
-	case <-time.After(20 * time.Second):
-		t.Fatal("the connection is open still")
-	}
+	await.From(t, "the end of the connection", ended)
 }
 
 // TestAnOpenConnectionLosesItsUser changes what let a user in while the connection is open. The user's grants stay.
@@ -67,7 +63,8 @@ func TestAnOpenConnectionLosesItsUser(t *testing.T) {
 		{"somebody else's password", true, func(folder string) error { return access.SetPassword(folder, "bob", "another horse") }, true},
 	} {
 		t.Run(it.what, func(t *testing.T) {
-			host := hosted(t, "drain 1s\n")
+			// A password is slow to judge under the race detector.
+			host := hosted(t, "drain 1s\nhandshake 5m\n")
 			check(t, access.SetPassword(host.folder, "alice", "correct horse"))
 			if it.byPassword {
 				host.config.Auth = []ssh.AuthMethod{ssh.Password("correct horse")}

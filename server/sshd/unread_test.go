@@ -7,6 +7,8 @@ import (
 	"time"
 
 	"golang.org/x/crypto/ssh"
+
+	"gitpoold/await"
 )
 
 // client is a connection of a user.
@@ -19,8 +21,10 @@ func (r *room) client(user string) *ssh.Client {
 	return client
 }
 
-// stalled gives a count once it does not grow for a second, or is above a bound.
-func stalled(count *atomic.Int64, most int64) int64 {
+// stalled gives a count that has come so far, once it does not grow for a second, or is above a bound.
+func stalled(t *testing.T, count *atomic.Int64, least, most int64) int64 {
+	t.Helper()
+	await.Until(t, "so many", func() bool { return count.Load() >= least })
 	for before := int64(-1); ; time.Sleep(time.Second) {
 		now := count.Load()
 		if now == before || now > most {
@@ -34,7 +38,7 @@ func stalled(count *atomic.Int64, most int64) int64 {
 // them.
 func TestWhatNobodyReadsIsBounded(t *testing.T) {
 	// So many fill what may be unread, and the buffers of the sockets.
-	const most = 400_000
+	const least, most = 10_000, 400_000
 	r := served(t, 1, "handshake 1m\n")
 	client := r.client("alice")
 	channel, requests, err := client.OpenChannel("session", nil)
@@ -47,7 +51,7 @@ func TestWhatNobodyReadsIsBounded(t *testing.T) {
 			sent.Add(1)
 		}
 	}()
-	if count := stalled(&sent, most); count > most || count < 10_000 {
+	if count := stalled(t, &sent, least, most); count > most {
 		t.Fatal(count, "packets are taken")
 	}
 	client.Close()
@@ -86,7 +90,6 @@ func TestSessionsOfAUser(t *testing.T) {
 	}
 }
 
-// TestSessionsThatWaitLetAllCome has sessions of which all wait, or one does not.
 // unreadOf is what is unread, while others may still write it.
 func unreadOf(p *pace) int {
 	p.mutex.Lock()
@@ -94,39 +97,37 @@ func unreadOf(p *pace) int {
 	return p.unread
 }
 
+// let tells once more may come over a connection.
+func let(p *pace) <-chan struct{} {
+	told := make(chan struct{})
+	go func() { p.awaitSessions(); close(told) }()
+	return told
+}
+
+// TestSessionsThatWaitLetAllCome has sessions of which all wait, or one does not.
 func TestSessionsThatWaitLetAllCome(t *testing.T) {
 	p := newPace(swallowing{})
 	p.open(2)
 	one, other := &paced{pace: p}, &paced{pace: p}
-	isLet := func() bool {
-		let := make(chan struct{})
-		go func() { p.awaitSessions(); close(let) }()
-		select {
-		case <-let:
-			return true
-		case <-time.After(50 * time.Millisecond):
-			return false
-		}
-	}
 	p.hasRead(-mostUnread - 2*mostUnreadOfSession)
-	if !isLet() {
-		t.Error("what the library lets clients send is not taken")
-	}
+	await.From(t, "what the library lets clients send", let(p))
 	p.hasRead(-1)
 	// Two who wait for the same session are one.
 	p.wait(one, 1)
 	p.wait(one, 1)
-	if isLet() {
+	late := let(p)
+	select {
+	case <-late:
 		t.Error("more is taken although a session does not read")
+	case <-time.After(50 * time.Millisecond):
 	}
 	p.wait(other, 1)
-	if !isLet() || unreadOf(p) != 0 {
-		t.Error("all wait, and nothing is taken")
+	await.From(t, "what all wait for", late)
+	if unreadOf(p) != 0 {
+		t.Error("all wait, and something is unread")
 	}
 	p.wait(other, -1)
 	p.hasRead(-mostUnread - 2*mostUnreadOfSession - 1)
 	p.Write(make([]byte, 64*answered))
-	if !isLet() {
-		t.Error("who takes much may not answer")
-	}
+	await.From(t, "the answer of who takes much", let(p))
 }

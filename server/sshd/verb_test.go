@@ -19,6 +19,7 @@ import (
 	"golang.org/x/crypto/ssh"
 
 	"gitpoold/access"
+	"gitpoold/await"
 	"gitpoold/frames"
 )
 
@@ -120,6 +121,15 @@ func stream(random *rand.Rand) []byte {
 	return whole
 }
 
+// piecesOf cuts a text anywhere. The server may answer while pieces of it are still sent, so they are cut before.
+func piecesOf(random *rand.Rand, text []byte) (all [][]byte) {
+	for len(text) > 0 {
+		count := 1 + random.Intn(len(text))
+		all, text = append(all, text[:count]), text[count:]
+	}
+	return all
+}
+
 // TestImportsAreAnsweredAsByTheProgram sends streams that are cut anywhere, and asks, over ssh, and carries the same out by the program alone.
 func TestImportsAreAnsweredAsByTheProgram(t *testing.T) {
 	r, pool := served(t, 1, ""), filepath.Join(t.TempDir(), "pool")
@@ -127,12 +137,10 @@ func TestImportsAreAnsweredAsByTheProgram(t *testing.T) {
 	ends := map[int]int{}
 	for turn := 0; turn < 25; turn++ {
 		text := stream(random)
-		it := r.begin("alice", "import acme/site")
+		it, pieces := r.begin("alice", "import acme/site"), piecesOf(random, text)
 		go func() {
-			for left := text; len(left) > 0; {
-				count := 1 + random.Intn(len(left))
-				it.in.Write(left[:count])
-				left = left[count:]
+			for _, piece := range pieces {
+				it.in.Write(piece)
 			}
 			it.in.Close()
 		}()
@@ -281,7 +289,7 @@ func (r *room) commits(tenant string) int {
 }
 
 func TestLimitsLeaveTheLastCheckpoint(t *testing.T) {
-	for lines, says := range map[string]string{"stream-bytes 100K\n": "stream-bytes", "stream-age 250ms\n": "stream-age", "frame-idle 250ms\n": "frame-idle",
+	for lines, says := range map[string]string{"stream-bytes 100K\n": "stream-bytes", "stream-age 4s\n": "stream-age", "frame-idle 4s\n": "frame-idle",
 		"quota 100K\n": "quota"} {
 		lines, says := lines, says
 		t.Run(says, func(t *testing.T) {
@@ -380,7 +388,7 @@ func TestALostConnectionEndsNoStream(t *testing.T) {
 		it.in.Write([]byte(commit + "progress there\n"))
 		io.ReadFull(it.out, make([]byte, len("progress there\n")))
 		it.raw.Close()
-		soon(t, "the stream is open still", func() bool { return r.pool.States()[0].Streams == 0 })
+		await.Until(t, "the end of the stream", func() bool { return r.pool.States()[0].Streams == 0 })
 		if got := r.refs("a"); got != "" {
 			t.Fatal(got)
 		}
@@ -407,7 +415,7 @@ func TestAChildThatDies(t *testing.T) {
 		if status := it.status(); status != 4 || !strings.HasSuffix(it.said.String(), "gitpool: fault 68\n") {
 			t.Error(command, status, it.said.String())
 		}
-		soon(t, "there is no child", func() bool { return r.commits("a") > 0 })
+		await.Until(t, "another child", func() bool { return r.commits("a") > 0 })
 		if got := r.commits("a"); got != 1 {
 			t.Error(command, got, "commits")
 		}
@@ -419,7 +427,7 @@ func TestAChildThatDies(t *testing.T) {
 
 // TestAClientThatSaysNotThatItIsThere ends its stream and then answers no question of ssh, as one whose machine is gone.
 func TestAClientThatSaysNotThatItIsThere(t *testing.T) {
-	r := served(t, 1, "idle 300ms\n")
+	r := served(t, 1, "idle 2s\n")
 	client, _ := r.dial("alice")
 	channel, _, err := client.OpenChannel("session", nil)
 	must(t, err)
@@ -428,7 +436,7 @@ func TestAClientThatSaysNotThatItIsThere(t *testing.T) {
 	_, err = channel.Write([]byte(commit))
 	must(t, err)
 	must(t, channel.CloseWrite())
-	soon(t, "there is no stream", func() bool { return r.pool.States()[0].GivenUp == 1 })
+	await.Until(t, "a stream that is given up", func() bool { return r.pool.States()[0].GivenUp == 1 })
 	if got := r.refs("a"); got != "" {
 		t.Error(got)
 	}
@@ -436,13 +444,14 @@ func TestAClientThatSaysNotThatItIsThere(t *testing.T) {
 
 // TestAClientThatIsThereMayBeSilent pauses a stream for longer than a connection may be silent.
 func TestAClientThatIsThereMayBeSilent(t *testing.T) {
-	r := served(t, 1, "idle 200ms\n")
+	const idle = 2 * time.Second
+	r := served(t, 1, fmt.Sprintf("idle %v\n", idle))
 	it := r.begin("alice", "import a")
 	for _, line := range strings.SplitAfter(commit, "\n") {
 		it.in.Write([]byte(line))
-		time.Sleep(150 * time.Millisecond)
+		time.Sleep(idle / 4)
 	}
-	time.Sleep(400 * time.Millisecond)
+	time.Sleep(2 * idle)
 	it.in.Close()
 	if status := it.status(); status != 0 || r.commits("a") != 1 {
 		t.Error(status, it.said.String())
@@ -450,10 +459,14 @@ func TestAClientThatIsThereMayBeSilent(t *testing.T) {
 }
 
 func TestSilentAndSlowClientsOfFrames(t *testing.T) {
-	r := served(t, 1, "frame-idle 300ms\n")
-	for _, text := range []string{"", "\x01", "\x01\x00\x01a\x00\x00\x00\x00", "\x01\x00\x01a\x00\x00\x00\x00\x02\x00\x01a\x00\x00\x00\x09x"} {
-		it := r.begin("alice", "frames a")
-		it.in.Write([]byte(text))
+	r := served(t, 1, "frame-idle 3s\n")
+	silent := map[string]*running{"": nil, "\x01": nil, "\x01\x00\x01a\x00\x00\x00\x00": nil,
+		"\x01\x00\x01b\x00\x00\x00\x00\x02\x00\x01b\x00\x00\x00\x09x": nil}
+	for text := range silent {
+		silent[text] = r.begin("alice", "frames "+map[bool]string{true: "b", false: "a"}[strings.Contains(text, "b")])
+		silent[text].in.Write([]byte(text))
+	}
+	for text, it := range silent {
 		if status := it.status(); status != 1 || !strings.Contains(it.said.String(), "frame-idle") {
 			t.Errorf("%q: %d %s", text, status, it.said.String())
 		}
@@ -475,7 +488,7 @@ func TestSilentAndSlowClientsOfFrames(t *testing.T) {
 
 // TestAClientThatReadsNothing sends commands that print, and takes nothing of that.
 func TestAClientThatReadsNothing(t *testing.T) {
-	r := served(t, 1, "idle 300ms\n")
+	r := served(t, 1, "idle 2s\n")
 	for _, command := range []string{"import a", "frames a"} {
 		it := r.begin("alice", command)
 		if command == "frames a" {
@@ -493,12 +506,8 @@ func TestAClientThatReadsNothing(t *testing.T) {
 			}
 			failed <- err
 		}()
-		select {
-		case <-failed:
-		case <-time.After(20 * time.Second):
-			t.Fatal(command, "it is let be")
-		}
-		soon(t, "the stream is open still", func() bool { return r.pool.States()[0].Streams == 0 })
+		await.From(t, "the end of "+command, failed)
+		await.Until(t, "the end of the stream", func() bool { return r.pool.States()[0].Streams == 0 })
 	}
 }
 
@@ -508,20 +517,20 @@ func TestAnswersThatWaitAreBounded(t *testing.T) {
 	if got := r.run("alice", "import a", []byte(blob)); got.status != 0 {
 		t.Fatal(got)
 	}
-	var all []*running
-	for i := 0; i < 2; i++ {
-		it := r.begin("alice", "frames a")
-		it.in.Write(frames.Step{Kind: frames.Ask, Tenant: "a", Body: []byte("cat main:f")}.AppendTo(nil))
-		all = append(all, it)
-		time.Sleep(200 * time.Millisecond)
-	}
-	if answer := all[1].answer(t); answer.Value != 25 {
+	// The library takes 2 MB that nobody reads, so the rest of the first answer waits once it has begun to come.
+	first, second := r.begin("alice", "frames a"), r.begin("alice", "frames a")
+	first.in.Write(frames.Step{Kind: frames.Ask, Tenant: "a", Body: []byte("cat main:f")}.AppendTo(nil))
+	begun := make([]byte, 1)
+	_, err := io.ReadFull(first.out, begun)
+	must(t, err)
+	first.out = io.MultiReader(bytes.NewReader(begun), first.out)
+	if answer := second.ask(t, frames.Ask, "a", "cat main:f"); answer.Value != 25 {
 		t.Error(answer.Status, answer.Value, len(answer.Reply))
 	}
-	if answer := all[0].answer(t); answer.Value != 0 || len(answer.Reply) < 2500000 {
+	if answer := first.answer(t); answer.Value != 0 || len(answer.Reply) < 2500000 {
 		t.Error(answer.Status, answer.Value, len(answer.Reply))
 	}
-	if answer := all[1].ask(t, frames.Ask, "a", "cat main:f"); answer.Value != 0 {
+	if answer := second.ask(t, frames.Ask, "a", "cat main:f"); answer.Value != 0 {
 		t.Error(answer.Value)
 	}
 }
@@ -694,88 +703,106 @@ func TestATokenGoesWithItsTenant(t *testing.T) {
 func TestABlockedTenantHasNoStreamOfFrames(t *testing.T) {
 	r := served(t, 1, "")
 	for _, isBusy := range []bool{false, true} {
-		it := r.begin("alice", "frames a")
-		it.ask(t, frames.Open, "a", "")
-		it.ask(t, frames.Feed, "a", commit)
-		began := time.Now()
-		must(t, access.Block(r.folder, access.Tenant, "a", ""))
-		if isBusy {
-			for it.ask(t, frames.Feed, "a", "#\n").Value == 0 && time.Since(began) < time.Second {
-			}
-		}
-		soon(t, "the stream is open still", func() bool { return r.pool.States()[0].Streams == 0 })
-		if took := time.Since(began); took > time.Second {
-			t.Error(took)
-		}
-		for _, kind := range []frames.Kind{frames.Feed, frames.End, frames.Open} {
-			if answer := it.ask(t, kind, "a", ""); answer.Value != 25 {
-				t.Error(kind, answer)
-			}
-		}
-		if answer := it.ask(t, frames.Ask, "a", "refs"); answer.Value != 0 || len(answer.Reply) > 0 {
-			t.Error(answer)
-		}
-		it.in.Close()
-		if status := it.status(); status != 0 || strings.Count(it.said.String(), "blocked") != 1 {
-			t.Error(status, it.said.String())
-		}
-		must(t, access.Unblock(r.folder, access.Tenant, "a"))
+		await.Quick(t, time.Second, func() time.Duration { return r.blocksFrames(isBusy) })
 	}
+}
+
+// blocksFrames blocks a tenant, and gives how long its stream of frames lasts then.
+func (r *room) blocksFrames(isBusy bool) (took time.Duration) {
+	t := r.t
+	it := r.begin("alice", "frames a")
+	it.ask(t, frames.Open, "a", "")
+	it.ask(t, frames.Feed, "a", commit)
+	began := time.Now()
+	must(t, access.Block(r.folder, access.Tenant, "a", ""))
+	if isBusy {
+		await.Until(t, "a refusal", func() bool { return it.ask(t, frames.Feed, "a", "#\n").Value != 0 })
+	}
+	await.Until(t, "the end of the stream", func() bool { return r.pool.States()[0].Streams == 0 })
+	took = time.Since(began)
+	for _, kind := range []frames.Kind{frames.Feed, frames.End, frames.Open} {
+		if answer := it.ask(t, kind, "a", ""); answer.Value != 25 {
+			t.Error(kind, answer)
+		}
+	}
+	if answer := it.ask(t, frames.Ask, "a", "refs"); answer.Value != 0 || len(answer.Reply) > 0 {
+		t.Error(answer)
+	}
+	it.in.Close()
+	if status := it.status(); status != 0 || strings.Count(it.said.String(), "blocked") != 1 {
+		t.Error(status, it.said.String())
+	}
+	must(t, access.Unblock(r.folder, access.Tenant, "a"))
+	return took
 }
 
 // TestABlockReachesAPush blocks a user and a tenant while the server waits for a push.
 func TestABlockReachesAPush(t *testing.T) {
 	r := served(t, 1, "")
 	for _, block := range [][2]string{{access.Tenant, "a"}, {access.User, "alice"}} {
-		it := r.begin("alice", "git-receive-pack '/a'")
-		_, err := io.ReadFull(it.out, make([]byte, 20))
-		must(t, err)
-		began := time.Now()
-		must(t, access.Block(r.folder, block[0], block[1], "too much"))
-		status := it.status()
-		if took := time.Since(began); status == 0 || took > time.Second || !strings.Contains(it.said.String(), "too much") {
-			t.Error(block, status, took, it.said.String())
-		}
-		must(t, access.Unblock(r.folder, block[0], block[1]))
+		await.Quick(t, time.Second, func() time.Duration { return r.blocksAPush(block) })
 	}
+}
+
+// blocksAPush gives how long a push lasts after a block.
+func (r *room) blocksAPush(block [2]string) (took time.Duration) {
+	t := r.t
+	it := r.begin("alice", "git-receive-pack '/a'")
+	_, err := io.ReadFull(it.out, make([]byte, 20))
+	must(t, err)
+	began := time.Now()
+	must(t, access.Block(r.folder, block[0], block[1], "too much"))
+	status := it.status()
+	if took = time.Since(began); status == 0 || !strings.Contains(it.said.String(), "too much") {
+		t.Error(block, status, took, it.said.String())
+	}
+	must(t, access.Unblock(r.folder, block[0], block[1]))
+	return took
 }
 
 // TestABlockReachesWhatIsOpen blocks a tenant and a user while sessions are at work.
 func TestABlockReachesWhatIsOpen(t *testing.T) {
 	r := served(t, 1, "")
 	for _, block := range [][2]string{{access.Tenant, "a"}, {access.User, "alice"}} {
-		it, framed, reader := r.begin("alice", "import a"), r.begin("alice", "frames b"), r.begin("bob", "frames acme/site")
-		it.in.Write([]byte(commit + "progress there\n"))
-		io.ReadFull(it.out, make([]byte, len("progress there\n")))
-		framed.ask(t, frames.Ask, "b", "head")
-		began := time.Now()
-		must(t, access.Block(r.folder, block[0], block[1], "too much"))
-		soon(t, "the stream is open still", func() bool { return r.pool.States()[0].Streams == 0 })
-		took, status := time.Since(began), it.status()
-		if status != 1 || took > time.Second || !strings.HasSuffix(it.said.String(), "too much (fault 25)\ngitpool: fault 25\n") {
-			t.Error(block, status, took, it.said.String())
-		}
-		if got := r.run("alice", "import a", []byte(commit)); got.status != 1 || !strings.Contains(got.said, "blocked") {
-			t.Error(block, got)
-		}
-		if got := r.run("alice", "ask a refs", nil); (got.status == 0) != (block[0] == access.Tenant) || got.out != "" {
-			t.Error(block, got)
-		}
-		if answer := reader.ask(t, frames.Ask, "acme/site", "head"); answer.Value != 0 {
-			t.Error("another user is refused")
-		}
-		if block[0] == access.User {
-			if status := framed.status(); status != 1 {
-				t.Error(status)
-			}
-		} else if answer := framed.ask(t, frames.Open, "b", ""); answer.Value != 0 {
-			t.Error("another tenant is refused")
-		}
-		must(t, access.Unblock(r.folder, block[0], block[1]))
+		await.Quick(t, time.Second, func() time.Duration { return r.blocksSessions(block) })
 	}
 	if got := r.run("alice", "import a", []byte(commit)); got.status != 0 || r.commits("a") != 1 {
 		t.Error(got)
 	}
+}
+
+// blocksSessions gives how long a stream lasts after a block, which reaches no other user and no other tenant.
+func (r *room) blocksSessions(block [2]string) (took time.Duration) {
+	t := r.t
+	it, framed, reader := r.begin("alice", "import a"), r.begin("alice", "frames b"), r.begin("bob", "frames acme/site")
+	it.in.Write([]byte(commit + "progress there\n"))
+	io.ReadFull(it.out, make([]byte, len("progress there\n")))
+	framed.ask(t, frames.Ask, "b", "head")
+	began := time.Now()
+	must(t, access.Block(r.folder, block[0], block[1], "too much"))
+	await.Until(t, "the end of the stream", func() bool { return r.pool.States()[0].Streams == 0 })
+	took = time.Since(began)
+	if status := it.status(); status != 1 || !strings.HasSuffix(it.said.String(), "too much (fault 25)\ngitpool: fault 25\n") {
+		t.Error(block, status, took, it.said.String())
+	}
+	if got := r.run("alice", "import a", []byte(commit)); got.status != 1 || !strings.Contains(got.said, "blocked") {
+		t.Error(block, got)
+	}
+	if got := r.run("alice", "ask a refs", nil); (got.status == 0) != (block[0] == access.Tenant) || got.out != "" {
+		t.Error(block, got)
+	}
+	if answer := reader.ask(t, frames.Ask, "acme/site", "head"); answer.Value != 0 {
+		t.Error("another user is refused")
+	}
+	if block[0] == access.User {
+		if status := framed.status(); status != 1 {
+			t.Error(status)
+		}
+	} else if answer := framed.ask(t, frames.Open, "b", ""); answer.Value != 0 {
+		t.Error("another tenant is refused")
+	}
+	must(t, access.Unblock(r.folder, block[0], block[1]))
+	return took
 }
 
 // TestAStopEndsWhatWaits stops the server while a client of frames is silent.

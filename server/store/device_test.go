@@ -10,6 +10,7 @@ import (
 	"testing"
 	"time"
 
+	"gitpoold/await"
 	"gitpoold/child"
 )
 
@@ -24,23 +25,13 @@ func TestAChildThatSIGBUSEnds(t *testing.T) {
 	defer s.Close(background)
 	pushAll(t, s, "m0")
 	must(t, syscall.Kill(s.State().ChildPid, syscall.SIGBUS))
-	await(t, "another child", func() bool { return s.Counts().Recoveries == 1 })
+	await.Until(t, "another child", func() bool { return s.Counts().Recoveries == 1 })
 	const why = "SIGBUS, for a page of its pool file is gone or cannot be read"
-	if state := s.State(); count("the child ended: "+why) != 1 || !strings.HasPrefix(state.LastEnd, why) || time.Since(state.EndedAt) > time.Minute {
+	if state := s.State(); count("the child ended: "+why) != 1 || !strings.HasPrefix(state.LastEnd, why) || time.Since(state.EndedAt) > await.Longest {
 		t.Fatalf("%+v", state)
 	}
 	pushAll(t, s, "m1")
 	hasMessages(t, s, "a", "refs/heads/main", []string{"m1", "m0"})
-}
-
-// await waits for at most twenty seconds.
-func await(t *testing.T, what string, has func() bool) {
-	t.Helper()
-	for until := time.Now().Add(20 * time.Second); !has(); time.Sleep(time.Millisecond) {
-		if time.Now().After(until) {
-			t.Fatal("there is not ", what)
-		}
-	}
 }
 
 // large is the message of a large commit.

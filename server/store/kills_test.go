@@ -17,6 +17,7 @@ import (
 	"time"
 
 	"gitpoold/answers"
+	"gitpoold/await"
 	"gitpoold/child"
 	"gitpoold/frames"
 )
@@ -187,7 +188,7 @@ func killed(t *testing.T, folder, fault, log string) string {
 	command.Env = append(os.Environ(), "GITPOOLD_FAULT="+fault, "GITPOOLD_FAULT_LOG="+log)
 	var out, said bytes.Buffer
 	command.Stdout, command.Stderr = &out, &said
-	timer := time.AfterFunc(60*time.Second, func() { command.Process.Kill() })
+	timer := time.AfterFunc(5*await.Longest, func() { command.Process.Kill() })
 	err := command.Run()
 	if !timer.Stop() {
 		t.Fatalf("%s: the run hangs:\n%s%s", fault, out.String(), said.String())

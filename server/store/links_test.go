@@ -6,8 +6,8 @@ import (
 	"path/filepath"
 	"syscall"
 	"testing"
-	"time"
 
+	"gitpoold/await"
 	"gitpoold/poolfile"
 	"gitpoold/regular"
 )
@@ -119,14 +119,10 @@ func isRefusedSoon(t *testing.T, c Config, name string) {
 		}
 		ended <- err
 	}()
-	select {
-	case err := <-ended:
-		var not *regular.NotFile
-		if !errors.As(err, &not) || not.Path != filepath.Join(c.Folder, name) {
-			t.Fatalf("%s: %v", name, err)
-		}
-	case <-time.After(20 * time.Second):
-		t.Fatalf("the start waits for %s", name)
+	err := await.From(t, "a start that waits for no "+name, ended)
+	var not *regular.NotFile
+	if !errors.As(err, &not) || not.Path != filepath.Join(c.Folder, name) {
+		t.Fatalf("%s: %v", name, err)
 	}
 }
 

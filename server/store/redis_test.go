@@ -10,6 +10,7 @@ import (
 	"testing"
 	"time"
 
+	"gitpoold/await"
 	"gitpoold/journal"
 	"gitpoold/redistest"
 )
@@ -62,7 +63,7 @@ func waitFor(t testing.TB, why chan error, isTaken bool) {
 		if !errors.As(err, &bad) || bad.IsTaken != isTaken {
 			t.Fatal(err)
 		}
-	case <-time.After(30 * time.Second):
+	case <-time.After(await.Longest):
 		t.Fatal("the server goes on")
 	}
 }
@@ -165,12 +166,7 @@ func TestASilentRedisIsWaitedFor(t *testing.T) {
 		t.Fatal(err)
 	}
 	server.Signal(syscall.SIGCONT)
-	for until := time.Now().Add(20 * time.Second); push(s, "a", "refs/heads/main", "m3") != nil; {
-		if time.Now().After(until) {
-			t.Fatal("no push is taken")
-		}
-		time.Sleep(10 * time.Millisecond)
-	}
+	await.Until(t, "a push that is taken", func() bool { return push(s, "a", "refs/heads/main", "m3") == nil })
 	want = append(want, "m3")
 	hasMessages(t, s, "a", "refs/heads/main", want)
 	crash(s)
@@ -191,12 +187,7 @@ func TestAChildThatDiesWhileRedisIsAway(t *testing.T) {
 	time.Sleep(1500 * time.Millisecond)
 	server.Restart()
 	hasMessages(t, s, "a", "refs/heads/main", []string{"m0"})
-	for until := time.Now().Add(20 * time.Second); push(s, "a", "refs/heads/main", "m1") != nil; {
-		if time.Now().After(until) {
-			t.Fatal("no push is taken")
-		}
-		time.Sleep(10 * time.Millisecond)
-	}
+	await.Until(t, "a push that is taken", func() bool { return push(s, "a", "refs/heads/main", "m1") == nil })
 	s.Close(background)
 }
 

@@ -8,11 +8,11 @@ import (
 	"os"
 	"strings"
 	"sync"
-	"sync/atomic"
 	"syscall"
 	"testing"
 	"time"
 
+	"gitpoold/await"
 	"gitpoold/child"
 	"gitpoold/frames"
 )
@@ -267,10 +267,15 @@ func TestAChildThatDoesNotAnswerIsReplaced(t *testing.T) {
 	}
 	ctx, stop := context.WithCancel(background)
 	defer stop()
-	var step atomic.Int64
-	step.Store(int64(100 * time.Millisecond))
-	go s.Keep(ctx, func() Rhythm { return Rhythm{1 << 40, time.Hour, time.Duration(step.Load())} })
-	syscall.Kill(s.State().ChildPid, syscall.SIGSTOP)
+	// The next child may take as long as the machine lets it take.
+	first := s.State().ChildPid
+	go s.Keep(ctx, func() Rhythm {
+		if syscall.Kill(first, 0) == nil {
+			return Rhythm{1 << 40, time.Hour, 100 * time.Millisecond}
+		}
+		return Rhythm{1 << 40, time.Hour, time.Hour}
+	})
+	syscall.Kill(first, syscall.SIGSTOP)
 	batch, err := s.Ask(background, child.Short, frames.Step{Kind: frames.Ask, Tenant: "a", Body: []byte("refs")})
 	if err != nil {
 		t.Fatal(err)
@@ -278,8 +283,6 @@ func TestAChildThatDoesNotAnswerIsReplaced(t *testing.T) {
 	if _, err := batch.Wait(background); !errors.Is(err, child.ErrGone) {
 		t.Fatal(err)
 	}
-	// The next child may take as long as the machine lets it take.
-	step.Store(int64(time.Hour))
 	hasMessages(t, s, "a", "refs/heads/main", []string{"m"})
 	if s.Counts().Recoveries != 1 {
 		t.Fatal(s.Counts())
@@ -296,13 +299,9 @@ func TestKeepSaves(t *testing.T) {
 				t.Fatal(err)
 			}
 		}
-		until := time.Now().Add(time.Minute)
-		for s.Counts().Saves == 0 || s.isDue(rhythm, &lastSave{at: time.Now().Add(-time.Second)}) {
-			if time.Now().After(until) {
-				t.Fatal(name, "nothing is saved")
-			}
-			time.Sleep(10 * time.Millisecond)
-		}
+		await.Until(t, "a save "+name, func() bool {
+			return s.Counts().Saves > 0 && !s.isDue(rhythm, &lastSave{at: time.Now().Add(-time.Second)})
+		})
 		stop()
 		s.Close(background)
 	}

@@ -13,6 +13,7 @@ import (
 	"testing"
 	"time"
 
+	"gitpoold/await"
 	"gitpoold/child"
 	"gitpoold/frames"
 	"gitpoold/redistest"
@@ -46,13 +47,9 @@ func saving(t testing.TB, s *Store, hasSecond bool) (goOn func() error) {
 	pid, saved := s.State().ChildPid, make(chan error, 1)
 	must(t, syscall.Kill(pid, syscall.SIGSTOP))
 	// A test that fails ends all the same.
-	late := time.AfterFunc(time.Minute, func() { _ = syscall.Kill(pid, syscall.SIGCONT) })
+	late := time.AfterFunc(3*await.Longest, func() { _ = syscall.Kill(pid, syscall.SIGCONT) })
 	go func() { saved <- s.Save(background) }()
-	for until := time.Now().Add(30 * time.Second); s.isShut() != true || secondOf(s) == nil == hasSecond; time.Sleep(time.Millisecond) {
-		if time.Now().After(until) {
-			t.Fatal("the save does not come to where the first child writes")
-		}
-	}
+	await.Until(t, "a save that is where the first child writes", func() bool { return s.isShut() && (secondOf(s) != nil) == hasSecond })
 	return func() error {
 		late.Stop()
 		must(t, syscall.Kill(pid, syscall.SIGCONT))
@@ -384,13 +381,9 @@ func TestASecondChildThatDoesNotLoad(t *testing.T) {
 		} else {
 			end(s)
 		}
-		select {
-		case err := <-saved:
-			if isKilled := name == "the first child ends"; isKilled != errors.Is(err, errNotSaved) || isKilled == (err == nil) && end != nil {
-				t.Fatal(name, err)
-			}
-		case <-time.After(20 * time.Second):
-			t.Fatal(name, "the save waits for a second child that does not load")
+		err := await.From(t, "a save that waits for no second child: "+name, saved)
+		if isKilled := name == "the first child ends"; isKilled != errors.Is(err, errNotSaved) || isKilled == (err == nil) && end != nil {
+			t.Fatal(name, err)
 		}
 		stop()
 		hasMessages(t, s, "a", "refs/heads/main", []string{"m0", "m1"})
@@ -444,7 +437,7 @@ func TestAPieceThatIsInTheJournalComesToTheChild(t *testing.T) {
 	defer s.Close(background)
 	st, err := s.Begin(background, "a", Checkpoints)
 	must(t, err)
-	pid := s.State().ChildPid
+	pid, before := s.State().ChildPid, s.journal.Number()
 	must(t, syscall.Kill(pid, syscall.SIGSTOP))
 	piece, left := []byte("blob\ndata 1048576\n"+strings.Repeat("x", 1<<20)+"\n"), make(chan struct{})
 	ctx, leave := context.WithCancel(background)
@@ -455,6 +448,7 @@ func TestAPieceThatIsInTheJournalComesToTheChild(t *testing.T) {
 		}
 		_, _ = st.Feed(ctx, append(commitOn("refs/heads/main", "one", ""), "checkpoint\n"...))
 	}()
+	await.Until(t, "a journal that has a piece", func() bool { return s.journal.Number() > before })
 	time.Sleep(200 * time.Millisecond)
 	leave()
 	time.Sleep(200 * time.Millisecond)

@@ -12,8 +12,10 @@ import (
 	"testing"
 	"time"
 
+	"gitpoold/await"
 	"gitpoold/child"
 	"gitpoold/frames"
+	"gitpoold/journal"
 )
 
 var background = context.Background()
@@ -106,13 +108,14 @@ func parent(s *Store, tenant, ref string) (string, error) {
 	return "from " + ref + "^0\n", nil
 }
 
+// ask asks until there is an answer. A store has none while its child is replaced, nor one that follows while it is behind for long.
 func ask(t testing.TB, s *Store, tenant, query string) string {
 	t.Helper()
-	ctx, stop := context.WithTimeout(background, 20*time.Second)
+	ctx, stop := context.WithTimeout(background, await.Longest)
 	defer stop()
-	for {
+	for ; ; time.Sleep(time.Millisecond) {
 		batch, err := s.Ask(ctx, child.Short, frames.Step{Kind: frames.Ask, Tenant: tenant, Body: []byte(query)})
-		if err != nil && !errors.Is(err, child.ErrGone) {
+		if err != nil && !errors.Is(err, child.ErrGone) && !errors.Is(err, journal.ErrBehind) {
 			t.Fatal(err)
 		}
 		if err == nil {
@@ -391,13 +394,8 @@ func TestAServerWithoutAProgramStops(t *testing.T) {
 	s.process.Kill()
 	closed := make(chan error)
 	go func() { time.Sleep(50 * time.Millisecond); closed <- s.Close(background) }()
-	select {
-	case err := <-closed:
-		if err == nil {
-			t.Fatal("saved without a program")
-		}
-	case <-time.After(30 * time.Second):
-		t.Fatal("the server does not stop")
+	if err := await.From(t, "the end of the server", closed); err == nil {
+		t.Fatal("saved without a program")
 	}
 	c.Program = whole
 	s = opened(t, c)

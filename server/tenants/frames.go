@@ -30,7 +30,7 @@ func (t Tenant) OpenFrames(ctx context.Context) (*FrameStream, error) {
 		unlock()
 		return nil, Fault{25}
 	}
-	share, err := t.enter()
+	share, err := t.Enter()
 	if err != nil {
 		unlock()
 		return nil, err

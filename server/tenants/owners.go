@@ -55,8 +55,8 @@ func (t Tenant) userRoom() (int64, error) {
 	return t.pool.owners.Room(t.user, t.name)
 }
 
-// enter begins a push or a stream, whose tenant's lock is held.
-func (t Tenant) enter() (Reservation, error) {
+// Enter begins a push or a stream, whose tenant's lock is held, or an upload beside the pool.
+func (t Tenant) Enter() (Reservation, error) {
 	if t.pool.owners == nil || t.user == "" {
 		return free{}, nil
 	}

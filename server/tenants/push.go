@@ -70,7 +70,7 @@ func (t Tenant) Push(ctx context.Context, judge func(Refs) error, feed func(*Str
 	if err != nil {
 		return err
 	}
-	share, err := t.enter()
+	share, err := t.Enter()
 	if err != nil {
 		return err
 	}

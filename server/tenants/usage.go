@@ -12,6 +12,19 @@ var ErrFull = errors.New("a limit is passed: the repository has as many bytes as
 type usage struct {
 	quota func(tenant string) int64
 	store Keeper
+	// beside gives the bytes that a tenant has beside the pool; nil where there are none.
+	beside func(tenant string) int64
+}
+
+// Beside lets bytes that tenants have beside the pool count for their quotas, and is called before there are pushes.
+func (p *Pool) Beside(bytes func(tenant string) int64) { p.usage.beside = bytes }
+
+// allows gives how many bytes of a tenant its quota leaves to the pool, if it has one.
+func (u *usage) allows(tenant string) (most int64, isBounded bool) {
+	if most = u.quota(tenant); most > 0 && u.beside != nil {
+		return most - u.beside(tenant), true
+	}
+	return most, most > 0
 }
 
 // unlimited is the room of a tenant without a quota.
@@ -24,8 +37,8 @@ func (t Tenant) Room() (int64, error) {
 	if err != nil {
 		return 0, err
 	}
-	most := t.pool.usage.quota(t.name)
-	if most <= 0 {
+	most, isBounded := t.pool.usage.allows(t.name)
+	if !isBounded {
 		return room, nil
 	}
 	if left := most - t.pool.store.Bytes(t.name); left < room {
@@ -48,7 +61,7 @@ func (t Tenant) RoomCounted(ctx context.Context) (int64, error) {
 
 // Allows is ErrFull where the tenant may not have so many bytes, by its quota and by the limits of who made it.
 func (t Tenant) Allows(bytes int64) error {
-	if most := t.pool.usage.quota(t.name); most > 0 && bytes > most {
+	if most, isBounded := t.pool.usage.allows(t.name); isBounded && bytes > most {
 		return ErrFull
 	}
 	more := bytes - t.pool.store.Bytes(t.name)

@@ -13,7 +13,7 @@ from typing import Callable, Dict, List, Optional, Sequence, Union
 Reply = Union[bytes, int, None, List["Reply"], Exception]
 Word = Union[str, bytes, int]
 
-PATIENCE = 120.0
+PATIENCE = 300.0
 """For how many seconds something is waited for that has to come."""
 
 
@@ -43,11 +43,16 @@ def wait_until(holds: Callable[[], object], what: str, seconds: float = PATIENCE
         time.sleep(0.02)
 
 
+HELD: List[socket.socket] = []
+
+
 def free_port() -> int:
-    """A port on which nobody listens."""
-    with socket.socket() as found:
-        found.bind(("127.0.0.1", 0))
-        return int(found.getsockname()[1])
+    """A port for a server, also for one that is started again: a socket has it that does not listen, so that no connection is given it."""
+    found = socket.socket()
+    found.setsockopt(socket.SOL_SOCKET, socket.SO_REUSEADDR, 1)
+    found.bind(("127.0.0.1", 0))
+    HELD.append(found)
+    return int(found.getsockname()[1])
 
 
 class Line:

@@ -82,7 +82,7 @@ class Server:
         """Lets it end as an operator does, and gives with what it ended."""
         assert self.process
         self.process.terminate()
-        return self.process.wait(120)
+        return self.process.wait(300)
 
     # What the operator asks
 

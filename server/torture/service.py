@@ -208,7 +208,7 @@ class Service:
         STARTED.append(process)
         wait_until(lambda: os.path.exists(os.path.join(folder, "socket")) or process.poll() is not None, "another machine does not start")
         process.terminate()
-        status = process.wait(120)
+        status = process.wait(300)
         for it in servers:
             it.kill()
         if status:

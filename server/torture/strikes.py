@@ -181,7 +181,7 @@ class Strikes(FollowerStrikes):
                 break
             assert service.leader.status() == 3 and "goes on from the pool file" in service.leader.said(), service.leader.said()[-1500:]
         assert first.process
-        status = first.process.wait(60)
+        status = first.process.wait(300)
         assert status == 4, f"the first server ended with {status}"
 
     # Damage. The service stands still, and all that was told is there.

@@ -6,6 +6,8 @@ import (
 	"sync"
 	"testing"
 	"time"
+
+	"gitpoold/await"
 )
 
 // order lets askers wait in an order while all places are taken, and tells in which order they have their turns.
@@ -28,7 +30,7 @@ func order(t *testing.T, p *Places, waiting ...[]string) (served []string) {
 				end()
 			}
 		}(askers)
-		await(t, func() bool { return p.count0() == at+1 })
+		await.Until(t, "as many wait as have come", func() bool { return p.count0() == at+1 })
 	}
 	for _, end := range leave[1:] {
 		defer end()
@@ -49,15 +51,6 @@ func (p *Places) count0() int {
 	p.mutex.Lock()
 	defer p.mutex.Unlock()
 	return len(p.waiting)
-}
-
-func await(t *testing.T, holds func() bool) {
-	t.Helper()
-	for until := time.Now().Add(time.Minute); !holds(); time.Sleep(time.Millisecond) {
-		if time.Now().After(until) {
-			t.Fatal("it does not come")
-		}
-	}
 }
 
 func enter(t *testing.T, p *Places, kind Kind, askers ...string) func() {

@@ -6,6 +6,7 @@ import (
 	"io"
 	"strings"
 
+	"gitpoold/packcache"
 	"gitpoold/pktline"
 	"gitpoold/tenants"
 )
@@ -18,6 +19,8 @@ type Server struct {
 	Lines pktline.Budget
 	// Memory gives what counts the lists, the commits and the large objects that a fetch holds; nil counts nothing.
 	Memory func() Memory
+	// Packs keeps packs of whole clones; nil keeps none.
+	Packs *packcache.Cache
 }
 
 // Memory counts what one fetch holds, until it is freed.

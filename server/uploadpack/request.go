@@ -8,6 +8,7 @@ import (
 	"strings"
 	"syscall"
 
+	"gitpoold/packcache"
 	"gitpoold/pktline"
 	"gitpoold/tenants"
 	"gitpoold/walk"
@@ -234,6 +235,8 @@ func Sentence(err error) string {
 	switch {
 	case errors.As(err, &refusal):
 		return refusal.Why
+	case errors.Is(err, packcache.ErrDamaged), errors.Is(err, packcache.ErrGone):
+		return err.Error()
 	case tenants.IsSentence(err):
 		return err.Error()
 	case errors.Is(err, syscall.ENOSPC), errors.Is(err, syscall.EDQUOT), errors.Is(err, syscall.EFBIG):

@@ -151,6 +151,7 @@ func (m *memoryRepository) Missing(_ context.Context, wants, haves []tenants.Nam
 
 // Entries gives entries of a pack, one at a time.
 func (m *memoryRepository) Entries(_ context.Context, listing tenants.Listing, use func([]byte) error) error {
+	deflater, _ := zlib.NewWriterLevel(nil, zlib.NoCompression)
 	for at := 0; at < listing.Len(); at++ {
 		o, is := m.objects[listing.Name(at)]
 		if !is || o.Kind != listing.Kind(at) || uint64(len(o.Contents)) != listing.Size(at) {
@@ -161,7 +162,7 @@ func (m *memoryRepository) Entries(_ context.Context, listing tenants.Listing, u
 			entry.Bytes()[0] |= 0x80
 			entry.Write(binary.AppendUvarint(nil, uint64(rest)))
 		}
-		deflater := zlib.NewWriter(entry)
+		deflater.Reset(entry)
 		_, _ = deflater.Write(o.Contents)
 		_ = deflater.Close()
 		if err := use(entry.Bytes()); err != nil {

@@ -7,6 +7,7 @@ import (
 
 	"gitpoold/objects"
 	"gitpoold/pack"
+	"gitpoold/packcache"
 	"gitpoold/pktline"
 	"gitpoold/tenants"
 	"gitpoold/walk"
@@ -138,12 +139,40 @@ func (f *fetch) sendPack(ctx context.Context, data, progress io.Writer) error {
 			return err
 		}
 	}
+	if isSent, err := f.sendKept(ctx, q, data, progress); isSent {
+		return err
+	}
 	listing, err := walk.Select(ctx, f.t, f.history, q)
 	if err != nil {
 		return err
 	}
 	f.history = nil
-	count := listing.Len()
+	return f.write(ctx, nil, listing, data, progress)
+}
+
+// sendKept sends a clone of everything by a pack that is kept, and tells whether it did. A client that knows no offsets of deltas gets none.
+func (f *fetch) sendKept(ctx context.Context, q walk.Request, data, progress io.Writer) (isSent bool, err error) {
+	isClone := len(q.Haves)+len(q.Was) == 0 && !f.deepening.IsSet() && q.Filter == walk.All && f.can["ofs-delta"]
+	if !isClone {
+		return false, nil
+	}
+	ctx, free := f.counted(ctx)
+	defer free()
+	kept := f.Packs.Find(ctx, f.t, packcache.Clone{Wants: q.Wants, Tags: q.Tags})
+	if kept == nil {
+		return false, nil
+	}
+	defer kept.Close()
+	return true, f.write(ctx, kept, kept.Beside(), data, progress)
+}
+
+// write writes one pack of the entries of a kept one, if it is not nil, and of objects that it lacks.
+func (f *fetch) write(ctx context.Context, kept *packcache.Pack, listing tenants.Listing, data, progress io.Writer) error {
+	reused, count := 0, listing.Len()
+	if kept != nil {
+		reused = kept.Kept()
+		count += reused
+	}
 	if count > 0 {
 		fmt.Fprintf(progress, "Enumerating objects: %d, done.\nCounting objects: 100%% (%d/%d), done.\n", count, count, count)
 	}
@@ -151,14 +180,19 @@ func (f *fetch) sendPack(ctx context.Context, data, progress io.Writer) error {
 	if err := w.Begin(count); err != nil {
 		return err
 	}
+	if kept != nil {
+		if err := kept.Entries(ctx, w.Entries); err != nil {
+			return err
+		}
+	}
 	if err := f.t.Entries(ctx, listing, w.Entries); err != nil {
 		return err
 	}
 	if err := w.Finish(); err != nil {
 		return err
 	}
-	// (git says the same of a pack whose objects it neither compresses nor copies from another)
-	_, err = fmt.Fprintf(progress, "Total %d (delta 0), reused 0 (delta 0), pack-reused 0\n", count)
+	// (git says the same of a pack whose objects it neither compresses nor copies from another, but for those of a kept one)
+	_, err := fmt.Fprintf(progress, "Total %d (delta 0), reused 0 (delta 0), pack-reused %d\n", count, reused)
 	return err
 }
 

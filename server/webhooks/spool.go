@@ -8,6 +8,8 @@ import (
 	"regexp"
 	"sort"
 	"time"
+
+	"gitpoold/regular"
 )
 
 // folderName is the folder of what waits, and of the log of deliveries.
@@ -44,7 +46,7 @@ func (s spool) write(d delivery, body []byte) error {
 		err = s.keep(d, true)
 	}
 	if err == nil {
-		err = syncFolder(s.folder)
+		err = regular.SyncFolder(s.folder)
 	}
 	if err != nil {
 		s.remove(d)
@@ -133,13 +135,4 @@ func replace(path string, text []byte, isSynced bool) error {
 		err = os.Rename(path+".new", path)
 	}
 	return err
-}
-
-func syncFolder(path string) error {
-	folder, err := os.Open(path)
-	if err != nil {
-		return err
-	}
-	defer folder.Close()
-	return folder.Sync()
 }

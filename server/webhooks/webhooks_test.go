@@ -16,6 +16,7 @@ import (
 	"testing"
 	"time"
 
+	"gitpoold/await"
 	"gitpoold/lists"
 	"gitpoold/metrics"
 )
@@ -24,15 +25,6 @@ func must(t *testing.T, err error) {
 	t.Helper()
 	if err != nil {
 		t.Fatal(err)
-	}
-}
-
-func await(t *testing.T, what string, is func() bool) {
-	t.Helper()
-	for until := time.Now().Add(time.Minute); !is(); time.Sleep(time.Millisecond) {
-		if time.Now().After(until) {
-			t.Fatal("not in time: " + what)
-		}
 	}
 }
 
@@ -71,12 +63,12 @@ func (r *receiver) told() int {
 	return len(r.bodies)
 }
 
-// sender is one of a folder, whose clock a test moves, and that keeps what it tells the operator.
+// sender is one of a folder, whose clock a test alone moves, and that keeps what it tells the operator.
 type sender struct {
 	*Sender
-	ahead atomic.Int64
-	mutex sync.Mutex
-	notes []string
+	ahead, within atomic.Int64
+	mutex         sync.Mutex
+	notes         []string
 }
 
 // inside allows this machine.
@@ -85,10 +77,13 @@ const insideList = "allow 127.0.0.0/8"
 func opened(t *testing.T, folder string, within time.Duration) *sender {
 	t.Helper()
 	s := &sender{}
+	s.within.Store(int64(within))
 	var err error
-	s.Sender, err = Open(Config{Folder: folder, Within: func() time.Duration { return within }, Tell: s.note, Metrics: metrics.New()})
+	s.Sender, err = Open(Config{Folder: folder, Within: func() time.Duration { return time.Duration(s.within.Load()) }, Tell: s.note,
+		Metrics: metrics.New()})
 	must(t, err)
-	s.clock = func() time.Time { return time.Now().Add(time.Duration(s.ahead.Load())) }
+	began := time.Now()
+	s.clock = func() time.Time { return began.Add(time.Duration(s.ahead.Load())) }
 	t.Cleanup(s.Close)
 	return s
 }
@@ -124,7 +119,7 @@ func (s *sender) pass(span time.Duration) {
 
 func (s *sender) settle(t *testing.T) {
 	t.Helper()
-	await(t, "all is delivered", func() bool { return s.Waiting() == 0 })
+	await.Until(t, "all is delivered", func() bool { return s.Waiting() == 0 })
 }
 
 func (s *sender) log(t *testing.T) string {
@@ -132,6 +127,12 @@ func (s *sender) log(t *testing.T) string {
 	text, err := Log(s.Folder)
 	must(t, err)
 	return string(text)
+}
+
+// logged waits until the log says something: a delivery is taken out of its queue before that.
+func (s *sender) logged(t *testing.T, says string) {
+	t.Helper()
+	await.Until(t, "the log says "+says, func() bool { return strings.Contains(s.log(t), says) })
 }
 
 func pushed(tenant string) Event {
@@ -146,6 +147,7 @@ func TestADeliveryIsSigned(t *testing.T) {
 	s := open(t, insideList, "secret "+where+" the-common-secret")
 	s.Put(where, pushed("acme/site"))
 	s.settle(t)
+	s.logged(t, " try=1 ")
 	head, body := r.heads[0], r.bodies[0]
 	if got := head.Get("X-Hub-Signature-256"); got != "sha256="+signature("the-common-secret", []byte(body)) || len(got) != 71 {
 		t.Error(got)
@@ -176,21 +178,22 @@ func TestWhatFailsIsTriedAgain(t *testing.T) {
 	r := receiving(t, 503, 500)
 	s := open(t, insideList)
 	s.Put(r.URL, pushed("acme/site"))
-	await(t, "the first try", func() bool { return strings.Contains(s.log(t), "try=1 ") })
+	s.logged(t, "try=1 ")
 	s.pass(firstWait / 2)
 	time.Sleep(50 * time.Millisecond)
 	if r.told() != 1 || s.Waiting() != 1 {
 		t.Fatal(r.told(), "tries, although no time has passed")
 	}
 	s.pass(firstWait)
-	await(t, "the second try", func() bool { return strings.Contains(s.log(t), "try=2 ") })
+	s.logged(t, "try=2 ")
 	s.pass(2 * firstWait)
 	s.settle(t)
+	s.logged(t, "try=3 ")
 	ids := map[string]bool{}
 	for _, it := range r.heads {
 		ids[it.Get("X-Gitpoold-Delivery")] = true
 	}
-	if r.told() != 3 || len(ids) != 1 || !strings.Contains(s.log(t), "try=3 ") || strings.Count(s.noted(), "\n") != 0 {
+	if r.told() != 3 || len(ids) != 1 || strings.Count(s.noted(), "\n") != 0 {
 		t.Error(r.told(), ids, s.log(t), s.noted())
 	}
 	if left, _ := filepath.Glob(filepath.Join(s.Folder, folderName, "*.*")); len(left) != 0 {
@@ -217,14 +220,10 @@ func TestOneThatFailsKeepsNobody(t *testing.T) {
 	r := receiving(t, 400)
 	s := open(t, insideList)
 	s.Put(r.URL, pushed("one"))
-	await(t, "the first one is refused", func() bool { return s.Waiting() == 1 && r.told() == 1 })
-	began := time.Now()
+	await.Until(t, "the first one is refused", func() bool { return s.Waiting() == 1 && r.told() == 1 })
 	s.Put(r.URL, pushed("two"))
-	// Once the second one is taken, the first one comes again at once.
+	// Once the second one is taken, the first one comes again at once: no time passes by the clock.
 	s.settle(t)
-	if took := time.Since(began); took >= firstWait {
-		t.Error(took)
-	}
 	if len(r.bodies) != 3 || !strings.Contains(r.bodies[1], `"two"`) || !strings.Contains(r.bodies[2], `"one"`) {
 		t.Error(r.bodies)
 	}
@@ -234,7 +233,7 @@ func TestADeliveryIsGivenUp(t *testing.T) {
 	s := open(t, insideList)
 	s.Put("http://127.0.0.1:1/", pushed("acme/site"))
 	for tries := 1; s.Waiting() > 0 && tries < 1000; tries++ {
-		await(t, "a try", func() bool { return s.Waiting() == 0 || strings.Contains(s.log(t), fmt.Sprintf("try=%d ", tries)) })
+		s.logged(t, fmt.Sprintf("try=%d ", tries))
 		s.pass(waitAfter(tries))
 	}
 	if lines := strings.Count(s.log(t), "\n"); lines < 24 || lines > 40 || !strings.Contains(s.noted(), "is told no more: ") {
@@ -261,7 +260,7 @@ func TestWhatWaitsOutlivesASender(t *testing.T) {
 	where := silent(t)
 	first.Put(where, pushed("killed"))
 	first.Put(r.URL, pushed("refused"))
-	await(t, "one was refused", func() bool { return strings.Contains(first.log(t), "try=1 ") })
+	first.logged(t, "try=1 ")
 	first.Close()
 	if !strings.Contains(first.noted(), "told of 2 events after the next start") {
 		t.Error(first.noted())
@@ -276,12 +275,13 @@ func TestWhatWaitsOutlivesASender(t *testing.T) {
 		t.Error(second.Waiting(), second.noted())
 	}
 	// The one that was refused waits for its time.
-	await(t, "the silent address is tried", func() bool { return strings.Count(second.log(t), "longer than a hook may take") == 2 })
+	await.Until(t, "the silent address is tried", func() bool { return strings.Count(second.log(t), "longer than a hook may take") == 2 })
 	if r.told() != 1 {
 		t.Error(r.told())
 	}
+	second.within.Store(int64(time.Minute))
 	second.pass(firstWait)
-	await(t, "what was refused comes again", func() bool { return r.told() == 2 })
+	await.Until(t, "what was refused comes again", func() bool { return r.told() == 2 })
 	if r.heads[0].Get("X-Gitpoold-Delivery") != r.heads[1].Get("X-Gitpoold-Delivery") {
 		t.Error(r.heads)
 	}
@@ -479,7 +479,7 @@ func TestWhatIsTakenBackIsDropped(t *testing.T) {
 	isWanted.Store(true)
 	s.IsWanted = func(string) bool { return isWanted.Load() }
 	s.Put(r.URL, pushed("acme/site"))
-	await(t, "the first try", func() bool { return strings.Contains(s.log(t), "try=1 ") })
+	s.logged(t, "try=1 ")
 	isWanted.Store(false)
 	s.pass(firstWait)
 	s.settle(t)

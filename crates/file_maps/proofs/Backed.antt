@@ -8,7 +8,9 @@ use Rattle.content_pool.specs.Pool.{Cells}
 use Rattle.tenant_tables.specs.declared.summary.Summary.{Summary}
 use Rattle.tenant_tables.specs.View.{Entries, summary_of}
 use Rattle.tenant_tables.specs.Objects.{objects}
-use Rattle.tenant_tables.specs.IsBackedBy.{IsBackedBy, AreBacked, HasSummary}
+use Rattle.tenant_tables.specs.IsBackedBy.{IsBackedBy, AreBacked}
+use Rattle.tenant_tables.specs.SumIn.{sum_in}
+use Rattle.tenant_tables.proofs.SumsIn.{table-sums}
 use Rattle.file_maps.specs.declared.fault.Fault.TheVariants as fault
 use Rattle.file_maps.specs.FileMap.{Listed}
 use Rattle.file_maps.specs.Grafts.{content_fault, tree_fault}
@@ -48,42 +50,43 @@ module _ (digest : List ℕ → List ℕ) (os : List Object) (backed : AreBacked
       (λ (xs : List Object). (id : List ℕ) (es : List TreeEntry) → HasTree xs id es → ListsTree xs id (stored_files xs id))
       (λ pool entries stands. files-listed digest pool entries stands)
 
-module _ {digest : List ℕ → List ℕ} {os : List Object} {id : List ℕ} where
+-- a summary that the objects give is the summary in the table
+pub summary-there : (digest : List ℕ → List ℕ) (pool : Cells) (entries : Entries)
+    → IsBackedBy digest pool entries → (id : List ℕ) (s : Summary)
+    → sum_in (objects pool entries) id ≡ Some s → summary_of id entries ≡ Some s
+summary-there digest pool entries stands id s has =
+    table-sums digest pool entries stands id ∙ has
+
+module _ {digest : List ℕ → List ℕ} {os : List Object} (backed : AreBacked digest os) (id : List ℕ) where
+  there : summary_of id backed.entries ≡ sum_in os id
+  there =
+      table-sums digest backed.pool backed.entries backed.stands id
+      ∙ ap (λ (xs : List Object). sum_in xs id) backed.same
+
   -- the summary of a tree is that of its files
-  pub summary-listed : {o : Option Summary} → HasSummary digest os id o → (fs : Listed) → ListsTree os id fs
+  pub summary-listed : {o : Option Summary} → o ≡ sum_in os id → (fs : Listed) → ListsTree os id fs
       → o ≡ Some (files_summary fs)
   summary-listed has fs t =
-      let b = has.backed in
-      sym has.is
-      ∙ table-summary digest b.pool b.entries b.stands id fs
-      (subst (λ (xs : List Object). ListsTree xs id fs) (sym b.same) t)
+      has ∙ sym there
+      ∙ table-summary digest backed.pool backed.entries backed.stands id fs
+      (subst (λ (xs : List Object). ListsTree xs id fs) (sym backed.same) t)
 
   -- a name with a summary is that of a tree, with these files
-  pub listed-summary : (s : Summary) → HasSummary digest os id (Some s)
+  pub listed-summary : (s : Summary) → sum_in os id ≡ Some s
       → ListsTree os id (stored_files os id) × (s ≡ files_summary (stored_files os id))
   listed-summary s has =
-      let b = has.backed in
-      let t = tree-lists digest b.pool b.entries b.stands id s has.is in
-      let there = subst (λ (xs : List Object). ListsTree xs id t.0) b.same t.1 in
-      let listed = tree-listed digest os b id there.direct there.tree in
-      (listed, some_is s (files_summary (stored_files os id)) (summary-listed has (stored_files os id) listed))
+      let t = tree-lists digest backed.pool backed.entries backed.stands id s (there ∙ has) in
+      let lists = subst (λ (xs : List Object). ListsTree xs id t.0) backed.same t.1 in
+      let listed = tree-listed digest os backed id lists.direct lists.tree in
+      (listed, some_is s (files_summary (stored_files os id)) (summary-listed (sym has) (stored_files os id) listed))
 
   -- an object without one is no tree
-  pub no-tree : (c : Content) → Some c ≡ object_named id os → HasSummary digest os id None
+  pub no-tree : (c : Content) → Some c ≡ object_named id os → None ≡ sum_in os id
       → tree_fault os id ≡ Some fault.WrongKind
   no-tree c found none =
-      let b = none.backed in
       ap content_fault (sym found)
       ∙ other_kind c.kind
       (λ tree.
-      let s = summary_at digest b.pool b.entries b.stands id c (ap (object_named id) b.same ∙ sym found) tree in
-      cc (sym s.1 ∙ none.is))
-
--- it is the summary in the table itself
-pub summary-there : (digest : List ℕ → List ℕ) (pool : Cells) (entries : Entries)
-    → IsBackedBy digest pool entries → (id : List ℕ) (s : Summary)
-    → HasSummary digest (objects pool entries) id (Some s) → summary_of id entries ≡ Some s
-summary-there digest pool entries stands id s has =
-    let l = listed-summary s has in
-    table-summary digest pool entries stands id (stored_files (objects pool entries) id) l.0
-    ∙ ap (λ (x : Summary). Some x) (sym l.1)
+      let s = summary_at digest backed.pool backed.entries backed.stands id c
+      (ap (object_named id) backed.same ∙ sym found) tree in
+      cc (sym s.1 ∙ there ∙ sym none))

@@ -40,7 +40,7 @@ use Rattle.file_maps.proofs.ListedLater.{named-added, named-later, tree-later}
 use Rattle.file_maps.proofs.Listing.{all-append, tree-only}
 use Rattle.file_maps.proofs.Nested.{direct_of}
 use Rattle.file_maps.proofs.Rising.{groups-rise}
-use Rattle.file_maps.proofs.Stored.{no_fault, depth-bound, longest-bound}
+use Rattle.file_maps.proofs.Stored.{no_fault, storable-within}
 use Rattle.file_maps.proofs.Sums.{none-both, fold-sums, groups-sum, group_sum, by_file}
 use Rattle.file_maps.proofs.SumsAfter.{AreSums, AreWithin, sums_after, fits-append, found-in, good-sums, fit-from, within-from, lists-sum}
 use Rattle.file_maps.proofs.TreesAdded.{name_of, nested_added}
@@ -109,13 +109,6 @@ one-of-trees digest P (es ∷ trees) os h id c is =
     ]
 
 -- ---- the sums of trees that are there
-
-storable-within : (files : Listed) → AreStorable files → IsWithin (files_summary files)
-storable-within files h = record {
-  files = h.few;
-  depth = depth-bound files h.each;
-  longest = longest-bound files h.each;
-}
 
 record IsTold (so_far : Sums) (es : List TreeEntry) : Type 0 where
   writable : CanWriteTree es

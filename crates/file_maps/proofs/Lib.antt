@@ -37,3 +37,4 @@ pub mod StoredPut
 pub mod TreesAdded
 pub mod SumsAfter
 pub mod FitTrees
+pub mod KnownTrees

@@ -15,7 +15,7 @@ use Rattle.tenant_tables.specs.View.{View}
 use Rattle.tenant_tables.specs.Objects.{objects}
 use Rattle.tenant_tables.specs.IsBackedBy.{IsBackedBy, PreservesOthers}
 use Rattle.tenant_tables.specs.Adding.{store_fault, Adds, Answers}
-use Rattle.tenant_tables.specs.Trees.{FitsTree}
+use Rattle.tenant_tables.specs.Trees.{FitsTree, IsWithin}
 use Rattle.tenant_tables.proofs.TableLemmas.{PreservesOthers-refl, PreservesOthers-then}
 use Rattle.tenant_tables.proofs.RoomLemmas.{room-after}
 use Rattle.file_maps.specs.declared.fault.Fault.{Fault}
@@ -24,7 +24,7 @@ use Rattle.file_maps.specs.FileMap.{Listed, IsFile}
 use Rattle.file_maps.specs.Trees.{tree_content, tree_name, depth_of}
 use Rattle.file_maps.specs.Storing.{with_trees, trees_fault, or_later, as_fault, AddsTrees}
 use Rattle.file_maps.specs.Storing.{AddsSome, HasHoldsLeftBeside}
-use Rattle.file_maps.specs.Storable.{longest_of}
+use Rattle.file_maps.specs.Storable.{AreStorable, files_summary, longest_of}
 use Rattle.file_maps.proofs.Kept.{summaries-kept}
 
 module _ (digest : List ℕ → List ℕ) where
@@ -196,3 +196,10 @@ pub longest-bound : (fs : Listed) → AllByRecursion IsFile fs → longest_of fs
 longest-bound [] h = omega arith
 longest-bound (f ∷ fs) h =
     let one = h.0.limits.bytes in let rest = longest-bound fs h.1 in omega arith
+
+pub storable-within : (files : Listed) → AreStorable files → IsWithin (files_summary files)
+storable-within files h = record {
+  files = h.few;
+  depth = depth-bound files h.each;
+  longest = longest-bound files h.each;
+}

@@ -28,6 +28,7 @@ use Rattle.file_maps.specs.Storable.{longest_of, files_summary, AreStorable}
 use Rattle.file_maps.proofs.Nested.{direct_of}
 use Rattle.file_maps.proofs.Rising.{Bytes, OfFirst, grouped-first, groups-rise}
 use Rattle.file_maps.proofs.Fits.{IsGroup, groups-are}
+use Rattle.file_maps.proofs.Stored.{storable-within}
 
 pub same_summary : (s t : Summary) → s.files ≡ t.files → s.depth ≡ t.depth → s.longest ≡ t.longest
     → s ≡ t
@@ -207,6 +208,7 @@ module _ (digest : List ℕ → List ℕ) (deep : ℕ) where
               ∙ sym (none-both (groups_sum (grouped fs)))
               ∙ sym (fold-sums table.no_files (map group_sum (grouped fs)))
               ∙ ap (fold table.both table.no_files) (sym (entries-sum (grouped fs) groups known));
+          within = storable-within fs h;
         }
 
     -- so they fit it

@@ -3,7 +3,7 @@
 ghost use Rattle.std.specs.Prelude.{◌≡◌, Some, List, IfOk, IfErr};
 ghost use Rattle.git_model.specs.Tree.{TreeEntry as ListedEntry};
 ghost use Rattle.git_objects.specs.Parts.{entries_of};
-ghost use Rattle.tenant_tables.specs.IsBackedBy.{HasSummary};
+ghost use Rattle.tenant_tables.specs.SumIn.{sum_in};
 ghost use Rattle.file_maps.specs.{StoredTree.{HasTree}, Grafts.{tree_fault, is_small}};
 
 use crate::check::FILES_LIMIT;
@@ -15,9 +15,10 @@ use tenant_tables::{Objects, Summary};
 /// The summary of the stored tree of this name. `ObjectUnknown` (14) where no object has this name,
 /// `WrongKind` (15) where the object is not a tree. Nothing changes.
 pub fn tree_summary<N: Naming>(objects: &Objects<'_, N>, id: &Name) -> Result<Summary, Fault>
-    ensures tree { IfOk result (λ s. HasSummary N.digest_of objects.now id.now (Some s)) }
+    ensures tree { IfOk result (λ s. sum_in objects.now id.now ≡ Some s) }
     ensures refusal { IfErr result (λ e. tree_fault objects.now id.now ≡ Some e) }
 {
+    objects.are_backed();
     match objects.summary(id) {
         Some(summary) => Ok(summary),
         None => match objects.get(id) {

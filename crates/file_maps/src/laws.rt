@@ -7,7 +7,9 @@ ghost use Rattle.git_model.specs.{RefStore.{no_refs}, Tree.{TreeEntry}};
 ghost use Rattle.git_names.specs.Naming.{AnswersNames};
 ghost use Rattle.content_pool.specs.Pool.{Cells};
 ghost use Rattle.tenant_tables.specs.{View.{Entries, summary_of}, Objects.{objects}};
-ghost use Rattle.tenant_tables.specs.{IsBackedBy.{IsBackedBy}, Sums.{IsWithin, TreesFit}};
+ghost use Rattle.tenant_tables.specs.{IsBackedBy.{IsBackedBy}, SumIn.{sum_in}, Sums.{TreesFit}};
+ghost use Rattle.tenant_tables.specs.Trees.{IsWithin};
+ghost use Rattle.tenant_tables.specs.declared.summary.Summary.{Summary};
 ghost use Rattle.file_maps.specs.FileMap.{FileMap, Path, Listed, AreFiles, listed};
 ghost use Rattle.file_maps.specs.{HeldFiles.{IsFileHeld}, Edits.{files_at, with_files}};
 ghost use Rattle.file_maps.specs.Trees.{grouped, nested_trees, tree_entries, tree_id};
@@ -72,6 +74,15 @@ pub fn table_summaries_are_of_files()
         → IsBackedBy digest pool entries
         → (id : List ℕ) (files : Listed) → ListsTree (objects pool entries) id files
         → summary_of id entries ≡ Some (files_summary files) }
+{}
+
+/// A tree that has a summary has files, and no others: its text is a writer's, and each of its
+/// directories has files too. The summary is that of the files, and they are within the limits. So
+/// a command that begins with the files of a tree has them wherever the tree has a summary.
+pub fn trees_with_sums_have_files()
+    ensures { (os : List Object) (id : List ℕ) (s : Summary) → sum_in os id ≡ Some s
+        → AreFilesOf os id (stored_files os id) × (s ≡ files_summary (stored_files os id))
+        × IsWithin s }
 {}
 
 /// In a good repository each tree has the files that `stored_files` gives, and no others.

@@ -12,8 +12,9 @@ use git_names::{Memory, Name};
 use std::alloc::Global;
 use std::marker::Model;
 
-/// How many names at the end are in no order.
-const FEW: usize = 1_024;
+/// How many names at the end are in no order. A lookup compares each of them; once there are so
+/// many, they are put into order.
+const FEW: usize = 64;
 
 /// Distinct object names: the committed ones, and those of the open stream.
 #[derive(Drop)]

@@ -31,3 +31,10 @@ WritesPack digest (Ok contents) old (Err fault.Device) new =
     HasBroken old new (pack_text digest contents)
 WritesPack digest (Ok contents) old (Err fault.Memory) new = new ≡ old
 WritesPack digest (Ok contents) old (Err _) new = ⊥
+
+-- Where nothing is said of the objects: the pack of those at some places is written, or memory runs
+-- out, and nothing is written; or the writer fails, and a prefix of such a pack is written.
+pub record WritesSomePack (digest : List ℕ → List ℕ) (os : List Object) (old : Device)
+    (result : Result Unit PackFault) (new : Device) : Type 0 where
+  pub places : List ℕ
+  pub writes : WritesPack digest (Ok (contents_at os places)) old result new

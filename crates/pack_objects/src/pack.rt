@@ -1,10 +1,13 @@
 //! The pack of the missing objects, over a writer.
 
+ghost use Rattle.std.specs.Prelude.{◌≡◌, true, false, Err};
 ghost use Rattle.byte_devices.specs.Device.{device_of, seen};
 ghost use Rattle.git_model.specs.HeldObjects.{AreHeld};
 ghost use Rattle.pool_file_format.specs.Sinks.{Writes};
 ghost use Rattle.pack_text.specs.PackText.{pack_text};
-ghost use Rattle.pack_objects.specs.Packs.{WritesPack, contents_at, pack_asked};
+ghost use Rattle.missing_objects.specs.Missing.{has_all};
+ghost use Rattle.pack_objects.specs.Packs.{WritesPack, WritesSomePack, contents_at, pack_asked};
+ghost use Rattle.pack_objects.specs.declared.fault.PackFault.TheVariants as fault;
 
 use crate::fault::PackFault;
 use byte_devices::{Counted, DeviceFault};
@@ -70,7 +73,14 @@ pub fn write_missing<N: StreamingDigest, W: Write>(
     haves: &[Name],
     writer: &mut Counted<W>,
 ) -> Result<(), PackFault>
-    ensures { AreHeld N.digest_of objects.now
+    ensures unknown { has_all objects.now wants.now ≡ false
+        → WritesPack N.digest_of (Err fault.UnknownObject)
+        (seen (W.contents (device_of writer.old)) writer.old) result
+        (seen (W.contents (device_of writer.new)) writer.new) }
+    ensures known { has_all objects.now wants.now ≡ true → WritesSomePack N.digest_of objects.now
+        (seen (W.contents (device_of writer.old)) writer.old) result
+        (seen (W.contents (device_of writer.new)) writer.new) }
+    ensures written { AreHeld N.digest_of objects.now
         → WritesPack N.digest_of (pack_asked objects.now wants.now haves.now)
         (seen (W.contents (device_of writer.old)) writer.old) result
         (seen (W.contents (device_of writer.new)) writer.new) }

@@ -219,6 +219,7 @@ summed_after kind.Tree bytes sums entries noted f = (
       contents = f.0.contents;
       directories = subst (λ (named : List ℕ → Option Summary). FilesBy named (tree_read bytes)) (λ i id. noted id i) f.1.directories;
       sums = noted_sum sums entries (tree_read bytes) noted;
+      within = f.1.within;
     },
   ),
 )

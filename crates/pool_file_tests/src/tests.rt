@@ -1,6 +1,7 @@
 //! The tests, by what they judge, and what they share.
 
 mod alike;
+mod deltas;
 mod files;
 mod indexed;
 mod judged;

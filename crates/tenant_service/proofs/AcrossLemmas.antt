@@ -124,6 +124,7 @@ module _ (a b : Entries) (agree : (id : List ℕ) → summary_of id a ≡ summar
               t.sums
               ∙ (λ i. fold both no_files (map (λ (e : TreeEntry).
               by_mode e.mode (below e.name (unwrap_or (agree e.id i) no_files)) (one_file e.name)) es));
+          within = t.within;
         },
       )
 

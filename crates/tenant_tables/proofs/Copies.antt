@@ -183,6 +183,7 @@ module _ (a b : Entries) where
       directories = All-from_recursion (DirectoryStands b) es
           (same-directories es all (recursion_from_All (DirectoryStands a) es t.directories));
       sums = t.sums ∙ ap (fold both no_files) (same-sums es all);
+      within = t.within;
     },
   )
 

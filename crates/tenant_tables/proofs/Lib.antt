@@ -1,6 +1,9 @@
 pub mod EntryLemmas
 pub mod HoldLemmas
 pub mod SummaryLemmas
+pub mod TreeTests
+pub mod PlainSums
+pub mod SumsIn
 pub mod TableLemmas
 pub mod LentLemmas
 pub mod RoomLemmas

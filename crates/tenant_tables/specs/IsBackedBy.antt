@@ -1,11 +1,10 @@
 -- How tables share a pool.
-use Rattle.std.specs.Prelude.{◌≡◌, ℕ, ◌+◌, ◌<◌, ◌≤◌, List, Option, All, length}
+use Rattle.std.specs.Prelude.{◌≡◌, ℕ, ◌+◌, ◌<◌, ◌≤◌, List, All, length}
 use Rattle.git_model.specs.Limits.{contents_limit}
 use Rattle.git_model.specs.Content.{name_by}
 use Rattle.git_model.specs.Repository.{Object}
 use Rattle.content_pool.specs.Pool.{Cells, holds, content}
-use Rattle.tenant_tables.specs.declared.summary.Summary.{Summary}
-use Rattle.tenant_tables.specs.View.{Entries, held, summary_of}
+use Rattle.tenant_tables.specs.View.{Entries, held}
 use Rattle.tenant_tables.specs.Objects.{objects}
 use Rattle.tenant_tables.specs.Trees.{IsSummed}
 
@@ -25,12 +24,6 @@ pub record AreBacked (digest : List ℕ → List ℕ) (os : List Object) : Type 
   pub entries : Entries
   pub stands : IsBackedBy digest pool entries
   pub same : objects pool entries ≡ os
-
--- The summary that their table has under a name.
-pub record HasSummary (digest : List ℕ → List ℕ) (os : List Object) (id : List ℕ)
-    (summary : Option Summary) : Type 0 where
-  pub backed : AreBacked digest os
-  pub is : summary_of id backed.entries ≡ summary
 
 -- A call changed the entries of a table from `old` to `new` and the pool from `before` to `after`,
 -- and did nothing to others: the count of a slot changed only by the holds that this table took or

@@ -9,6 +9,7 @@ pub mod Room
 pub mod Adding
 pub mod Trees
 pub mod Sums
+pub mod SumIn
 pub mod Abbreviation
 pub mod Index
 pub mod Copied

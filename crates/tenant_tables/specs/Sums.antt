@@ -1,16 +1,16 @@
 -- The sizes of all trees among objects: how many files, how deep, how long a path. The limits are
 -- those of gitpool.
-use Rattle.std.specs.Prelude.{◌≡◌, ℕ, ◌≤◌, List, [], ◌∷◌, All}
+use Rattle.std.specs.Prelude.{◌≡◌, ℕ, List, [], ◌∷◌, All}
 use Rattle.std.specs.Map.{lookup}
 use Rattle.std.specs.Str.{bytes_eq}
 use Rattle.git_model.specs.declared.kind.Kind.{Kind}
 use Rattle.git_model.specs.declared.kind.Kind.TheVariants as kind
-use Rattle.git_model.specs.Limits.{files_limit, path_bytes_limit, path_components_limit}
 use Rattle.git_model.specs.Tree.{TreeEntry, CanWriteTree, tree_contents}
 use Rattle.git_model.specs.TreeReading.{tree_read}
 use Rattle.git_model.specs.Repository.{Object}
 use Rattle.tenant_tables.specs.declared.summary.Summary.{Summary}
 use Rattle.tenant_tables.specs.Trees.{HasFilesBy, summary_by, tree_summary_by}
+pub use Rattle.tenant_tables.specs.Trees.{IsWithin}
 
 -- The summaries of the trees so far, under their names. If a name has two, the newer one counts.
 abbrev pub Sums : Type 0
@@ -26,12 +26,6 @@ sum_of_tree sums es = tree_summary_by (λ id. lookup (bytes_eq id) sums) es
 -- The tree of a directory has at least one file.
 abbrev pub HasFiles : Sums → TreeEntry → Type 0
 HasFiles sums e = HasFilesBy (λ id. lookup (bytes_eq id) sums) e
-
--- At most 1,048,576 files, 256 components, and paths of 16,383 bytes.
-pub record IsWithin (s : Summary) : Type 0 where
-  pub files : s.files ≤ files_limit
-  pub depth : s.depth ≤ path_components_limit
-  pub longest : s.longest ≤ path_bytes_limit
 
 -- A tree with these entries fits after the trees so far.
 pub record FitsAfter (sums : Sums) (es : List TreeEntry) : Type 0 where

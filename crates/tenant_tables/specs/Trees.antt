@@ -1,9 +1,10 @@
 -- What a table knows of a tree without reading it: the size of its file map.
-use Rattle.std.specs.Prelude.{◌≡◌, ◌≢◌, ℕ, ◌+◌, ◌==◌, List, All, Option, None, Some, IsSomeAnd, length, map, max, fold, take, slice_get, if◌then◌else◌}
+use Rattle.std.specs.Prelude.{◌≡◌, ◌≢◌, ℕ, ◌+◌, ◌==◌, ◌≤◌, List, All, Option, None, Some, IsSomeAnd, length, map, max, fold, take, slice_get, if◌then◌else◌}
 use Rattle.std.specs.Option.{unwrap_or}
 use Rattle.git_model.specs.declared.file_mode.FileMode.{FileMode}
 use Rattle.git_model.specs.declared.file_mode.FileMode.TheVariants as mode
 use Rattle.git_model.specs.declared.kind.Kind.TheVariants as kind
+use Rattle.git_model.specs.Limits.{files_limit, path_bytes_limit, path_components_limit}
 use Rattle.git_model.specs.Tree.{TreeEntry, CanWriteTree, tree_contents}
 use Rattle.git_model.specs.Content.{Content}
 use Rattle.content_pool.specs.Pool.{Cells, content}
@@ -49,6 +50,12 @@ both s t = record {
 abbrev pub tree_summary_by : (List ℕ → Option Summary) → List TreeEntry → Summary
 tree_summary_by known es = fold both no_files (map (summary_by known) es)
 
+-- At most 1,048,576 files, 256 components, and paths of 16,383 bytes.
+pub record IsWithin (s : Summary) : Type 0 where
+  pub files : s.files ≤ files_limit
+  pub depth : s.depth ≤ path_components_limit
+  pub longest : s.longest ≤ path_bytes_limit
+
 -- The tree of a directory is known, and has at least one file.
 abbrev pub HasFilesBy : (List ℕ → Option Summary) → TreeEntry → Type 0
 HasFilesBy known e = e.mode ≡ mode.Directory → IsSomeAnd (known e.id) (λ s. s.files ≢ 0)
@@ -64,13 +71,14 @@ abbrev pub DirectoryStands : Entries → TreeEntry → Type 0
 DirectoryStands table e = HasFilesBy (λ id. summary_of id table) e
 
 -- The bytes are the contents of a tree whose directories are in the table, and the summary is that
--- of its files.
+-- of its files, which are within the limits.
 pub record IsTreeOf (table : Entries) (bytes : List ℕ) (summary : Summary)
     (es : List TreeEntry) : Type 0 where
   pub writable : CanWriteTree es
   pub contents : bytes ≡ tree_contents es
   pub directories : All (DirectoryStands table) es
   pub sums : summary ≡ tree_summary table es
+  pub within : IsWithin summary
 
 -- The same, of some entries.
 abbrev pub FitsTree : Entries → List ℕ → Summary → Type 0

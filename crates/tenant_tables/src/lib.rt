@@ -13,6 +13,7 @@ mod entry_list;
 mod fault;
 mod found;
 mod front;
+pub mod laws;
 mod objects;
 mod places;
 mod releasing;

@@ -9,7 +9,7 @@ ghost use Rattle.git_model.specs.{ObjectName.{object_name}, Content.{content_fro
 ghost use Rattle.git_model.specs.Repository.{object_named};
 ghost use Rattle.name_index.specs.Index.{most_shared};
 ghost use Rattle.tenant_tables.specs.{Abbreviation.{found_among}, Objects.{objects}};
-ghost use Rattle.tenant_tables.specs.IsBackedBy.{IsBackedBy, AreBacked, HasSummary};
+ghost use Rattle.tenant_tables.specs.{IsBackedBy.{IsBackedBy, AreBacked}, SumIn.{sum_in}};
 ghost use Rattle.tenant_tables.specs.View.{in_sight, slot_of};
 
 use crate::{Found, Sight, Summary, Table};
@@ -78,7 +78,7 @@ impl<'a, N: Naming> Objects<'a, N> {
 
     /// The summary of the tree of this name; `None` if there is no such tree. Takes no memory.
     pub fn summary(&self, id: &Name) -> Option<Summary>
-        ensures { HasSummary N.digest_of self.now id.now result }
+        ensures { result ≡ sum_in self.now id.now }
     {
         let (place, entry) = self.table.look_up(id)?;
         if place < self.len() {

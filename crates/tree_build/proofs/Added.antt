@@ -8,7 +8,7 @@ use Rattle.content_pool.specs.Pool.{Cells}
 use Rattle.tenant_tables.specs.View.{View}
 use Rattle.tenant_tables.specs.Objects.{objects}
 use Rattle.tenant_tables.specs.IsBackedBy.{IsBackedBy}
-use Rattle.tenant_tables.specs.Trees.{IsTreeOf, FitsTree, tree_summary}
+use Rattle.tenant_tables.specs.Trees.{IsTreeOf, FitsTree, IsWithin, tree_summary}
 use Rattle.tenant_tables.specs.declared.summary.Summary.{Summary}
 use Rattle.file_maps.specs.declared.fault.Fault.{Fault}
 use Rattle.file_maps.specs.FileMap.{Listed}
@@ -67,6 +67,8 @@ module _ (digest : List ℕ → List ℕ) (p : Cells) (u : View) (stands : IsBac
             contents = f.contents;
             directories = f.directories;
             sums = sums ∙ ap (tree_summary u.entries) is;
+            within =
+                subst IsWithin (f.sums ∙ sym (sums ∙ ap (tree_summary u.entries) is)) f.within;
           }),
         )
 

@@ -9,7 +9,8 @@ use Rattle.git_paths.specs.Paths.{IsComponent}
 use Rattle.git_paths.specs.Order.{path_cmp, path_cmp-total, path_cmp-IsAntisymmetric}
 use Rattle.git_paths.proofs.Cases.{some_is}
 use Rattle.tenant_tables.specs.declared.summary.Summary.{Summary}
-use Rattle.tenant_tables.specs.IsBackedBy.{AreBacked, HasSummary}
+use Rattle.tenant_tables.specs.IsBackedBy.{AreBacked}
+use Rattle.tenant_tables.specs.SumIn.{sum_in}
 use Rattle.file_maps.specs.FileMap.{Path, Listed, FileMap, AreFiles, listed, is_apart}
 use Rattle.file_maps.specs.Edits.{moved, with_files, put_tree_at, put_fault}
 use Rattle.file_maps.specs.Grafts.{is_small}
@@ -75,9 +76,10 @@ few_files top (f ∷ fs) h =
 
 -- ---- a tree of the table
 
-pub tree-here : {digest : List ℕ → List ℕ} {os : List Object} {id : List ℕ} (s : Summary)
-    → HasSummary digest os id (Some s) → IsStored os id s
-tree-here s has = let l = listed-summary s has in record { tree = l.0; sum = l.1 }
+pub tree-here : {digest : List ℕ → List ℕ} {os : List Object} (backed : AreBacked digest os)
+    {id : List ℕ} (s : Summary) → sum_in os id ≡ Some s → IsStored os id s
+tree-here backed {id} s has =
+    let l = listed-summary backed id s has in record { tree = l.0; sum = l.1 }
 
 pub placeable : (os : List Object) (id : List ℕ) → ListsTree os id (stored_files os id)
     → ArePlaceable (stored_files os id)

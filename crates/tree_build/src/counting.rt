@@ -17,6 +17,7 @@ fn count_stored<N: Naming>(objects: &Objects<'_, N>, id: &Name) -> usize
     requires { ListsTree objects.now id.now (stored_files objects.now id.now) }
     ensures { result ≡ length (stored_files objects.now id.now) }
 {
+    objects.are_backed();
     match objects.summary(id) {
         Some(summary) => summary.files as usize,
         None => 0,

@@ -3,7 +3,8 @@
 ghost use Rattle.std.specs.Prelude.{◌≡◌, All, IfOk, Some};
 ghost use Rattle.git_model.specs.Tree.{CanWriteTree};
 ghost use Rattle.git_objects.specs.Parts.{entries_of};
-ghost use Rattle.tenant_tables.specs.{Trees.{DirectoryStands, tree_summary}, View.{summary_of}};
+ghost use Rattle.tenant_tables.specs.Trees.{DirectoryStands, IsWithin, tree_summary};
+ghost use Rattle.tenant_tables.specs.View.{summary_of};
 
 use content_pool::Pool;
 use git_objects::{Kind, Name, Naming, TreeEntry, write_tree};
@@ -52,6 +53,7 @@ impl<N: Naming> Forest<N> {
         requires writable { CanWriteTree (entries_of entries.now) }
         requires directories { All (DirectoryStands self.old) (entries_of entries.now) }
         requires sums { summary ≡ tree_summary self.old (entries_of entries.now) }
+        requires within { IsWithin summary }
         ensures { IfOk result (λ id. summary_of id self.new ≡ Some summary) }
     {
         let mut contents = Vec::new(self.alloc);

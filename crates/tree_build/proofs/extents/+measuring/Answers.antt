@@ -22,7 +22,7 @@ extent-returns-in-Unopened g t c =
     let sound = subst (λ (n : Node). IsHeld os (held n)) c.in-Unopened.is c.requires.sound in
     c.unwrap_or.ensures
     ∙ ap (λ (o : Option Summary). unwrap_or o c.no_files.result)
-    (summary-listed c.summary.ensures _ sound.0)
+    (summary-listed c.are_backed.ensures _ c.summary.ensures _ sound.0)
     ∙ ap (λ (n : Node). files_summary (held_files (stored_files os) (held n)))
     (sym c.in-Unopened.is)
 
@@ -115,4 +115,4 @@ extent_of_dir-returns-in-Some g t c =
     known c.requires.sound.0 in
     c.unwrap_or.ensures
     ∙ ap (λ (o : Option Summary). unwrap_or o c.no_files.result)
-    (summary-listed c.summary.ensures _ lists)
+    (summary-listed c.are_backed.ensures _ c.summary.ensures _ lists)

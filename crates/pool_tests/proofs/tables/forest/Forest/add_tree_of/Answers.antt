@@ -17,6 +17,7 @@ add_tree-requires g c = record {
           (λ (xs : List ℕ). xs ++ tree_contents (entries_of c.args.entries.now)) c.new-contents.ensures.items;
       directories = rw c.self.view_is c.requires.directories;
       sums = rw c.self.view_is c.requires.sums;
+      within = c.requires.within;
     },
   );
 }

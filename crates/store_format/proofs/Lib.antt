@@ -1,0 +1,11 @@
+pub mod Crash
+pub mod Loop
+pub mod Appending
+pub mod Texts
+pub mod States
+pub mod ListedLemmas
+pub mod Chaining
+pub mod SoundFiles
+pub mod Savings
+pub mod Objects
+pub mod Saves

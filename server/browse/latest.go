@@ -1,0 +1,101 @@
+package browse
+
+import (
+	"context"
+
+	"gitpoold/tenants"
+)
+
+// Latest gives, for entries of a directory of a commit, the commit that changed each last, as a log of one commit for each path does. What it
+// has not found within its bounds is not there.
+func Latest(ctx context.Context, s Source, of *Commit, path string, names []string, b Bounds) (map[string]*Commit, error) {
+	l := &latest{past: newPast(s, b, path), open: map[tenants.Name][]string{of.Name: names}, found: map[string]*Commit{}}
+	l.push(of)
+	for l.queue.Len() > 0 && !l.isSpent() {
+		if err := l.step(ctx, l.pop()); err != nil {
+			return nil, err
+		}
+	}
+	return l.found, nil
+}
+
+type latest struct {
+	*past
+	open  map[tenants.Name][]string // of commits that wait, the entries that were changed there or before
+	found map[string]*Commit
+	// kept are directories that were read last.
+	kept map[tenants.Name]map[string]Entry
+}
+
+// step lets the parents of a commit have the entries that they have in the same way. It has changed the others.
+func (l *latest) step(ctx context.Context, c *Commit) error {
+	left := l.open[c.Name]
+	delete(l.open, c.Name)
+	parents, err := l.load(ctx, c.Parents)
+	if err != nil {
+		return err
+	}
+	for _, parent := range parents {
+		same, changed, err := l.parted(ctx, c, parent, left)
+		if err != nil {
+			return err
+		}
+		if left = changed; len(same) > 0 {
+			l.open[parent.Name] = append(l.open[parent.Name], same...)
+			l.push(parent)
+		}
+	}
+	for _, name := range left {
+		l.found[name] = c
+	}
+	return nil
+}
+
+// parted tells which entries of a commit its parent has in the same way.
+func (l *latest) parted(ctx context.Context, c, parent *Commit, names []string) (same, changed []string, err error) {
+	own, err := l.at(ctx, c, l.path)
+	if err != nil || len(names) == 0 {
+		return nil, nil, err
+	}
+	theirs, err := l.at(ctx, parent, l.path)
+	if err != nil || own.Name == theirs.Name {
+		return names, nil, err
+	}
+	mine, err := l.entries(ctx, own)
+	if err != nil {
+		return nil, nil, err
+	}
+	others, err := l.entries(ctx, theirs)
+	for _, name := range names {
+		if mine[name] == others[name] {
+			same = append(same, name)
+		} else {
+			changed = append(changed, name)
+		}
+	}
+	return same, changed, err
+}
+
+// mostKept is how many directories a walk keeps.
+const mostKept = 8
+
+// entries reads a directory.
+func (l *latest) entries(ctx context.Context, it Entry) (map[string]Entry, error) {
+	if found, has := l.kept[it.Name]; has || !it.IsTree() {
+		return found, nil
+	}
+	o, err := Object(ctx, l, it.Name)
+	if err != nil {
+		return nil, err
+	}
+	all, err := Entries(o)
+	entries := make(map[string]Entry, len(all))
+	for _, entry := range all {
+		entries[entry.Path] = entry
+	}
+	if l.kept == nil || len(l.kept) == mostKept {
+		l.kept = map[tenants.Name]map[string]Entry{}
+	}
+	l.kept[it.Name] = entries
+	return entries, err
+}
