@@ -354,7 +354,7 @@ class Connection(Channel):
 
 
 class OverSsh(Run):
-    """Frames of one tenant of a server on another machine, by ssh (docs/SERVER.md, "Streams and questions over ssh"). An End lasts from
+    """Frames of one tenant of a server on another machine, by ssh (docs/SERVER-REFERENCE.md, "Streams and questions over ssh"). An End lasts from
     its answer on. The server gives up the stream that is open when the connection ends."""
 
     is_server = True

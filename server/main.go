@@ -1,4 +1,4 @@
-// Gitpoold serves the tenants of one pool to unmodified git, over http and ssh, durably. docs/SERVER.md is its manual.
+// Gitpoold serves the tenants of one pool to unmodified git, over http and ssh, durably. docs/SERVER.md begins its manual.
 package main
 
 import (

@@ -23,6 +23,7 @@ const mostBlamed = 4 << 20
 // followed. A bound that it comes to leaves commits out, and is no error.
 func Blame(ctx context.Context, s Source, of *Commit, path string, b Bounds) ([]Blamed, error) {
 	w := &blame{past: newPast(s, b, path), suspects: map[tenants.Name][]*suspect{}}
+	w.texts = versions[[]string]{past: w.past, make: linesOf}
 	it, err := w.at(ctx, of, path)
 	if err != nil {
 		return nil, err
@@ -55,7 +56,7 @@ type blame struct {
 	*past
 	found    []Blamed
 	suspects map[tenants.Name][]*suspect // of commits that wait
-	kept     map[tenants.Name][]string   // lines of files that were read last
+	texts    versions[[]string]
 }
 
 // suspect lets lines wait for a commit.
@@ -183,22 +184,17 @@ func (s *span) cut(count, moved int) span {
 	return front
 }
 
-// lines reads a file; one that is large has none.
+// lines gives the lines of a file; one that is large has none.
 func (w *blame) lines(ctx context.Context, it Entry) ([]string, error) {
-	if found, has := w.kept[it.Name]; has || !it.IsBlob() {
-		return found, nil
+	if !it.IsBlob() {
+		return nil, nil
 	}
-	o, err := Object(ctx, w, it.Name)
-	if err != nil {
-		return nil, err
+	return w.texts.of(ctx, it)
+}
+
+func linesOf(o tenants.Object) ([]string, error) {
+	if len(o.Contents) > mostBlamed {
+		return nil, nil
 	}
-	var lines []string
-	if len(o.Contents) <= mostBlamed {
-		lines = linediff.Lines(string(o.Contents))
-	}
-	if w.kept == nil || len(w.kept) == mostKept {
-		w.kept = map[tenants.Name][]string{}
-	}
-	w.kept[it.Name] = lines
-	return lines, nil
+	return linediff.Lines(string(o.Contents)), nil
 }

@@ -3,6 +3,7 @@
 package browse
 
 import (
+	"bytes"
 	"context"
 	"errors"
 	"fmt"
@@ -56,6 +57,11 @@ func Object(ctx context.Context, s Source, name tenants.Name) (found tenants.Obj
 	return found, err
 }
 
+// Objects asks for objects, each once; zeros are passed over.
+func Objects(ctx context.Context, s Source, names []tenants.Name, use func(tenants.Object) error) error {
+	return s.Objects(ctx, fresh(names, map[tenants.Name]bool{}), use)
+}
+
 // Entry is an entry of a tree.
 type Entry struct {
 	Mode string
@@ -100,11 +106,15 @@ func (e Entry) IsGitlink() bool {
 	return !e.Name.IsZero() && !e.IsTree() && !e.IsLink() && !e.IsFile()
 }
 
+// usualModes are modes as git writes them.
+var usualModes = []string{"100644", objects.ModeTree, "100755", objects.ModeLink, objects.ModeGitlink}
+
 // IsUsual tells whether git would write the entry's mode in this way.
 func (e Entry) IsUsual() bool {
-	switch e.Mode {
-	case objects.ModeTree, objects.ModeLink, objects.ModeGitlink, "100644", "100755":
-		return true
+	for _, it := range usualModes {
+		if e.Mode == it {
+			return true
+		}
 	}
 	return false
 }
@@ -117,12 +127,23 @@ func Entries(o tenants.Object) (entries []Entry, err error) {
 	if o.Kind != tenants.Tree {
 		return nil, fmt.Errorf("%v: %w", o.Name, ErrKind)
 	}
+	entries = make([]Entry, 0, bytes.Count(o.Contents, []byte{0}))
 	for rest := o.Contents; ; {
 		entry, after, ok := objects.NextEntry(rest)
 		if !ok {
 			return entries, nil
 		}
-		entries = append(entries, Entry{string(entry.Mode), string(entry.Path), entry.Name})
+		entries = append(entries, Entry{modeOf(entry.Mode), string(entry.Path), entry.Name})
 		rest = after
 	}
+}
+
+// modeOf is a mode as a string, which the usual ones have without a copy.
+func modeOf(mode []byte) string {
+	for _, it := range usualModes {
+		if string(mode) == it {
+			return it
+		}
+	}
+	return string(mode)
 }

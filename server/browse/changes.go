@@ -75,16 +75,17 @@ func (c *comparison) level(ctx context.Context, wave []pair) (after []pair, err 
 			c.isCut = true
 			return nil, nil
 		}
-		news := map[string]Entry{}
-		for _, entry := range trees[it.new] {
-			news[entry.Path] = entry
+		olds, news := differing(trees[it.old], trees[it.new])
+		unmet := make(map[string]Entry, len(news))
+		for _, entry := range news {
+			unmet[entry.Path] = entry
 		}
-		for _, entry := range trees[it.old] {
-			after = c.compare(after, it.path, entry, news[entry.Path])
-			delete(news, entry.Path)
+		for _, entry := range olds {
+			after = c.compare(after, it.path, entry, unmet[entry.Path])
+			delete(unmet, entry.Path)
 		}
-		for _, entry := range trees[it.new] {
-			if _, isNew := news[entry.Path]; isNew {
+		for _, entry := range news {
+			if _, isNew := unmet[entry.Path]; isNew {
 				after = c.compare(after, it.path, Entry{}, entry)
 			}
 		}
@@ -92,18 +93,25 @@ func (c *comparison) level(ctx context.Context, wave []pair) (after []pair, err 
 	return after, nil
 }
 
+// differing leaves out the entries at the beginnings and at the ends of two trees that are the same.
+func differing(olds, news []Entry) (left, right []Entry) {
+	for len(olds) > 0 && len(news) > 0 && olds[0] == news[0] {
+		olds, news = olds[1:], news[1:]
+	}
+	for len(olds) > 0 && len(news) > 0 && olds[len(olds)-1] == news[len(news)-1] {
+		olds, news = olds[:len(olds)-1], news[:len(news)-1]
+	}
+	return olds, news
+}
+
 // read reads the trees of a level, each once.
 func (c *comparison) read(ctx context.Context, wave []pair) (map[tenants.Name][]Entry, error) {
-	trees := map[tenants.Name][]Entry{{}: nil}
+	trees := map[tenants.Name][]Entry{}
 	var names []tenants.Name
 	for _, it := range wave {
-		for _, name := range []tenants.Name{it.old, it.new} {
-			if _, is := trees[name]; !is {
-				trees[name] = nil
-				names = append(names, name)
-			}
-		}
+		names = append(names, it.old, it.new)
 	}
+	names = fresh(names, trees)
 	c.trees += len(names)
 	read := 0
 	return trees, c.source.Objects(ctx, names, func(o tenants.Object) (err error) {

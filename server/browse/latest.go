@@ -10,6 +10,7 @@ import (
 // has not found within its bounds is not there.
 func Latest(ctx context.Context, s Source, of *Commit, path string, names []string, b Bounds) (map[string]*Commit, error) {
 	l := &latest{past: newPast(s, b, path), open: map[tenants.Name][]string{of.Name: names}, found: map[string]*Commit{}}
+	l.folders = versions[map[string]Entry]{past: l.past, make: entriesOf}
 	l.push(of)
 	for l.queue.Len() > 0 && !l.isSpent() {
 		if err := l.step(ctx, l.pop()); err != nil {
@@ -21,10 +22,9 @@ func Latest(ctx context.Context, s Source, of *Commit, path string, names []stri
 
 type latest struct {
 	*past
-	open  map[tenants.Name][]string // of commits that wait, the entries that were changed there or before
-	found map[string]*Commit
-	// kept are directories that were read last.
-	kept map[tenants.Name]map[string]Entry
+	open    map[tenants.Name][]string // of commits that wait, the entries that were changed there or before
+	found   map[string]*Commit
+	folders versions[map[string]Entry]
 }
 
 // step lets the parents of a commit have the entries that they have in the same way. It has changed the others.
@@ -76,26 +76,19 @@ func (l *latest) parted(ctx context.Context, c, parent *Commit, names []string) 
 	return same, changed, err
 }
 
-// mostKept is how many directories a walk keeps.
-const mostKept = 8
-
-// entries reads a directory.
+// entries gives what a directory has.
 func (l *latest) entries(ctx context.Context, it Entry) (map[string]Entry, error) {
-	if found, has := l.kept[it.Name]; has || !it.IsTree() {
-		return found, nil
+	if !it.IsTree() {
+		return nil, nil
 	}
-	o, err := Object(ctx, l, it.Name)
-	if err != nil {
-		return nil, err
-	}
+	return l.folders.of(ctx, it)
+}
+
+func entriesOf(o tenants.Object) (map[string]Entry, error) {
 	all, err := Entries(o)
 	entries := make(map[string]Entry, len(all))
 	for _, entry := range all {
 		entries[entry.Path] = entry
 	}
-	if l.kept == nil || len(l.kept) == mostKept {
-		l.kept = map[tenants.Name]map[string]Entry{}
-	}
-	l.kept[it.Name] = entries
 	return entries, err
 }

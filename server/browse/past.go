@@ -21,6 +21,7 @@ type past struct {
 	finders map[string]*finder
 	read    map[tenants.Name]*Commit
 	ahead   int
+	coming  []Entry // what the commits that were read have at the path, without what the walk has passed
 	queue   queue
 	queued  map[tenants.Name]bool
 }
@@ -79,7 +80,14 @@ func (p *past) readAll(ctx context.Context, names []tenants.Name) error {
 	if err != nil {
 		return err
 	}
-	return p.finder(p.path).find(ctx, p, trees)
+	f := p.finder(p.path)
+	err = f.find(ctx, p, trees)
+	for _, tree := range trees {
+		if it := f.at(tree); len(p.coming) == 0 || it != p.coming[len(p.coming)-1] {
+			p.coming = append(p.coming, it)
+		}
+	}
+	return err
 }
 
 // mostOfText is how many bytes of a message, and of a name, a walk keeps of each commit.

@@ -8,6 +8,7 @@ package highlight
 import (
 	"context"
 	"strings"
+	"sync"
 	"time"
 	"unicode/utf8"
 
@@ -38,7 +39,7 @@ func Lines(ctx context.Context, name, text string) [][]pages.Part {
 	if len(text) > mostBytes || !utf8.ValidString(text) || hasLongLine(text) {
 		return nil
 	}
-	lexer := lexers.Match(name)
+	lexer := lexerOf(name)
 	if lexer == nil || lexer.Config().Name == "plaintext" {
 		return nil
 	}
@@ -62,6 +63,39 @@ func Lines(ctx context.Context, name, text string) [][]pages.Part {
 	case <-late.C:
 		return nil
 	}
+}
+
+// known are the lexers of names that were asked for. Chroma tries thousands of patterns for each name.
+var known = struct {
+	sync.Mutex
+	lexers map[string]chroma.Lexer
+}{lexers: map[string]chroma.Lexer{}}
+
+// Of how many names they are kept, and how long one of these may be.
+const (
+	mostKnown    = 1000
+	longestKnown = 100
+)
+
+// lexerOf is the lexer for files of a name, or nil.
+func lexerOf(name string) chroma.Lexer {
+	known.Lock()
+	lexer, has := known.lexers[name]
+	known.Unlock()
+	if has {
+		return lexer
+	}
+	lexer = lexers.Match(name)
+	if len(name) > longestKnown {
+		return lexer
+	}
+	known.Lock()
+	defer known.Unlock()
+	if len(known.lexers) == mostKnown {
+		known.lexers = map[string]chroma.Lexer{}
+	}
+	known.lexers[strings.Clone(name)] = lexer
+	return lexer
 }
 
 func hasLongLine(text string) bool {

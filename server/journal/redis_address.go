@@ -134,7 +134,7 @@ func (o *Options) connect() (redis.Conn, error) {
 }
 
 // ErrUnsynced says that a Redis tells of records before they are on its disk, or drops them when it is full.
-var ErrUnsynced = errors.New("a push that is told would not last (docs/SERVER.md, \"The journal in Redis\")")
+var ErrUnsynced = errors.New("a push that is told would not last (docs/DEPLOY.md, \"The journal in Redis\")")
 
 // wantedSettings are those without which Redis may lose what it has acknowledged.
 var wantedSettings = [...]struct{ name, value string }{

@@ -33,7 +33,7 @@ type BadLog struct {
 func (b *BadLog) IsLoss() bool { return !b.NeedsCopy && (!b.IsTaken || b.MayHaveLost) }
 
 func (b *BadLog) Error() string {
-	return fmt.Sprintf("%s: %s; nothing was changed (docs/SERVER.md, \"The journal in Redis\")", b.Log, b.Reason)
+	return fmt.Sprintf("%s: %s; nothing was changed (docs/DEPLOY.md, \"The journal in Redis\")", b.Log, b.Reason)
 }
 
 func (a Address) bad(form string, values ...any) error {

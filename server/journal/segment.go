@@ -134,7 +134,7 @@ type Damaged struct {
 }
 
 func (d *Damaged) Error() string {
-	return fmt.Sprintf("%s: %s at byte %d; nothing was changed (docs/SERVER.md, \"A damaged journal\")", d.Path, d.Reason, d.At)
+	return fmt.Sprintf("%s: %s at byte %d; nothing was changed (docs/SERVER-REFERENCE.md, \"A damaged journal\")", d.Path, d.Reason, d.At)
 }
 
 // lostPool says that the pool file is none that the journal goes on from.

@@ -25,7 +25,7 @@ const (
 type Lost struct{ Path, Reason string }
 
 func (l *Lost) Error() string {
-	return fmt.Sprintf("%s: the list %s; nothing was changed (docs/SERVER.md, \"A list that was lost\")", l.Path, l.Reason)
+	return fmt.Sprintf("%s: the list %s; nothing was changed (docs/SERVER-REFERENCE.md, \"A list that was lost\")", l.Path, l.Reason)
 }
 
 // Text is the text of a list with these lines.

@@ -2,6 +2,7 @@ package pages
 
 import (
 	"context"
+	"html/template"
 	"time"
 
 	"gitpoold/browse"
@@ -10,12 +11,6 @@ import (
 
 // toBlame is what is read to find who brought the lines of a file.
 var toBlame = browse.Bounds{Objects: 12000, Bytes: 256 << 20, Time: 3 * time.Second}
-
-// blamed is who brought a run of lines.
-type blamed struct {
-	*commitLine
-	Before string // the page of the file before that commit, or ""
-}
 
 // blame shows of each line of a file which commit brought it.
 func (v Visit) blame(ctx context.Context) (Answer, error) {
@@ -34,13 +29,14 @@ func (v Visit) blame(ctx context.Context) (Answer, error) {
 			return Answer{}, err
 		}
 		page.Code, page.Note = v.codeOf(ctx, string(f.object.Contents))
+		page.Code.IsChoosing = false
 		page.Count = several(page.Code.Count, "line", "lines")
 		page.Note += v.accuse(page.Code.Lines, found)
 	}
 	return v.page("blame", v.blobFrame(page.Name, f), page)
 }
 
-// accuse notes at the first line of each run who brought it, and says of how many lines that is not known.
+// accuse writes at the first line of each run who brought it, and says of how many lines that is not known.
 func (v Visit) accuse(lines []codeLine, found []browse.Blamed) string {
 	older, isEven := 0, false
 	for at := range lines {
@@ -48,13 +44,14 @@ func (v Visit) accuse(lines []codeLine, found []browse.Blamed) string {
 		if by == nil {
 			older++
 		}
+		lines[at].class = " "
 		if at == 0 || by != found[at-1].Commit {
 			isEven = !isEven
-			lines[at].By = v.blamed(found[at])
-			lines[at].Class = "first"
+			lines[at].by = v.blamed(found[at])
+			lines[at].class = " first"
 		}
-		if isEven {
-			lines[at].Class += " even"
+		if lines[at].by = `<span class="by">` + lines[at].by + `</span>`; isEven {
+			lines[at].class += " even"
 		}
 	}
 	if older == 0 {
@@ -63,13 +60,23 @@ func (v Visit) accuse(lines []codeLine, found []browse.Blamed) string {
 	return several(older, "line is", "lines are") + " of commits further back than this page looks. "
 }
 
-func (v Visit) blamed(it browse.Blamed) *blamed {
+// blamed says who brought a run of lines, with a way to the file before that.
+func (v Visit) blamed(it browse.Blamed) template.HTML {
 	if it.Commit == nil {
-		return &blamed{}
+		return "further back"
 	}
-	by := &blamed{commitLine: v.lineOf(v.Place, it.Commit)}
+	var w lines
+	by := v.lineOf(v.Place, it.Commit)
+	w.add(`<a href="`, by.URL, `" title="`, by.Subject, `">`, by.Short, `</a> `)
 	if len(it.Commit.Parents) > 0 {
-		by.Before = v.Place.At(Blame, it.Commit.Parents[0].String(), it.Path).URL()
+		before := v.Place.At(Blame, it.Commit.Parents[0].String(), it.Path).URL()
+		w.add(`<a href="`, before, `" title="Blame before `, by.Short, `" aria-label="Blame before `, by.Short, `">↶</a> `)
+	} else {
+		w.add("  ")
 	}
-	return by
+	if when := by.When; when != nil {
+		w.add(`<time datetime="`, when.Machine, `" title="`, when.Full, `">`, when.Ago, `</time>`)
+	}
+	w.add(` <bdi>`, by.Author, `</bdi>`)
+	return w.HTML()
 }

@@ -3,6 +3,7 @@ package pages
 import (
 	"context"
 	"fmt"
+	"html/template"
 	"net/url"
 	"path"
 	"strconv"
@@ -26,14 +27,36 @@ type code struct {
 	IsChoosing bool // the numbers of lines lead to pages on which lines are chosen
 }
 
-// codeLine is a line. By is who brought it, where the page is about that, at the first line of a run.
+// codeLine is a line. By is the place of who brought it, where the page is about that.
 type codeLine struct {
-	Number   int
-	URL      string // where the number leads
-	IsChosen bool
-	Parts    []Part
-	By       *blamed
-	Class    string
+	number int
+	url    string // where the number leads
+	parts  []Part
+	by     template.HTML
+	class  string
+}
+
+// HTML writes the lines, in a fraction of the time that a template takes for thousands of them.
+func (c *code) HTML() template.HTML {
+	var w lines
+	for _, it := range c.Lines {
+		number := strconv.Itoa(it.number)
+		w.add(`<span class="line`, it.class, `" id="L`, number, `">`+string(it.by)+`<a href="`, it.url, `" data-n="`, number)
+		if c.IsChoosing {
+			w.add(`" aria-label="Line `, number, `"></a>`)
+		} else {
+			w.add(`" tabindex="-1" aria-hidden="true"></a>`)
+		}
+		for _, part := range it.parts {
+			if part.Class == "" {
+				w.add("", part.Text)
+			} else {
+				w.add(`<span class="`, part.Class, `">`, part.Text, `</span>`)
+			}
+		}
+		w.add("\n</span>")
+	}
+	return w.HTML()
 }
 
 // codeOf takes the lines of a text, and says what is shown otherwise than it is.
@@ -60,9 +83,14 @@ func (v Visit) codeOf(ctx context.Context, text string) (c *code, note string) {
 		colours = v.Highlight(ctx, path.Base(v.Place.Path), text)
 	}
 	for at, it := range lines {
-		shown := codeLine{Number: at + 1, URL: chosen.url(at + 1), IsChosen: chosen.has(at + 1), Parts: []Part{{"", line(it)}}}
+		shown := codeLine{number: at + 1, url: chosen.url(at + 1)}
+		if chosen.has(at + 1) {
+			shown.class = " chosen"
+		}
 		if at < len(colours) && len(it) <= longestLine {
-			shown.Parts = visibleParts(colours[at])
+			shown.parts = visibleParts(colours[at])
+		} else {
+			shown.parts = []Part{{"", line(it)}}
 		}
 		c.Lines = append(c.Lines, shown)
 	}

@@ -26,14 +26,15 @@ type comparePage struct {
 // compare compares two revisions as they are, or by three dots the second one with the merge base of both.
 func (v Visit) compare(ctx context.Context) (Answer, error) {
 	dots, other := v.Place.dots()
-	old, err := commitOf(ctx, v.Repository, v.Place.Revision)
+	names, err := browse.Names(ctx, v.Repository, v.Place.Revision+"^{commit}", other+"^{commit}")
 	if err != nil {
 		return Answer{}, err
 	}
-	new, err := commitOf(ctx, v.Repository, other)
+	commits, err := v.commits(ctx, names)
 	if err != nil {
 		return Answer{}, err
 	}
+	old, new := commits[names[0]], commits[names[1]]
 	if old == nil || new == nil {
 		return Answer{}, errNothing
 	}
@@ -78,7 +79,8 @@ func (v Visit) diverged(ctx context.Context, page *comparePage, old, new *browse
 	}
 	switch {
 	case !d.Base.IsZero() && isByBase:
-		return commitOf(ctx, v.Repository, d.Base.String())
+		commits, err := v.commits(ctx, []tenants.Name{d.Base})
+		return commits[d.Base], err
 	case !isByBase:
 		return old, nil
 	}

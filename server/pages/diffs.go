@@ -2,11 +2,15 @@ package pages
 
 import (
 	"context"
+	"errors"
 	"fmt"
+	"html/template"
+	"strconv"
 	"strings"
 
 	"gitpoold/browse"
 	"gitpoold/linediff"
+	"gitpoold/tenants"
 )
 
 // Most that a page shows of changes, and that it reads for that.
@@ -27,26 +31,15 @@ type changes struct {
 type fileDiff struct {
 	ID, Path, OldPath, Change, URL, Mode string
 	Added, Deleted                       int
-	Hunks                                []hunk
+	Hunks                                template.HTML
 	Why                                  string
-}
-
-type hunk struct {
-	Head  string
-	Lines []diffLine
-}
-
-// diffLine is a line with its mark in front. Class is the mark's name.
-type diffLine struct {
-	Class    string
-	Old, New int
-	Text     string
 }
 
 // differ makes the differences of one page, within bounds. Before and after are revisions for links, or "".
 type differ struct {
 	visit         Visit
 	before, after string
+	all           []browse.Change
 	lines, read   int
 }
 
@@ -56,18 +49,16 @@ func (v Visit) changes(ctx context.Context, before, after *browse.Commit) (all c
 	if err != nil {
 		return all, err
 	}
-	d := &differ{visit: v, before: before.Name.String(), after: after.Name.String()}
+	d := &differ{visit: v, before: before.Name.String(), after: after.Name.String(), all: found}
+	if len(found) > mostDiffs {
+		d.all = found[:mostDiffs]
+	}
+	if all.Files, err = d.files(ctx); err != nil {
+		return all, err
+	}
 	added, deleted := 0, 0
-	for at, it := range found {
-		if at == mostDiffs {
-			break
-		}
-		file, err := d.file(ctx, at+1, it)
-		if err != nil {
-			return all, err
-		}
+	for _, file := range all.Files {
 		added, deleted = added+file.Added, deleted+file.Deleted
-		all.Files = append(all.Files, file)
 	}
 	all.Summary = several(len(found), "file", "files") + " changed"
 	if !isWhole {
@@ -81,10 +72,57 @@ func (v Visit) changes(ctx context.Context, before, after *browse.Commit) (all c
 	return all, nil
 }
 
-// file compares one file.
-func (d *differ) file(ctx context.Context, number int, it browse.Change) (*fileDiff, error) {
-	f := &fileDiff{Path: visible(it.Path()), ID: fmt.Sprintf("file-%d", number), Change: "changed"}
-	at := d.visit.Place
+// isFull tells whether the page has shown enough.
+func (d *differ) isFull() bool { return d.lines > mostDiffLines || d.read > mostDiffRead }
+
+var errFull = errors.New("the page has shown enough")
+
+// files compares the files one by one, as their contents come.
+func (d *differ) files(ctx context.Context) (files []*fileDiff, err error) {
+	texts := make([][2][]byte, len(d.all)) // before and after
+	var names []tenants.Name
+	var places [][2]int // of the texts that are read
+	for at, it := range d.all {
+		for side, entry := range []browse.Entry{it.Old, it.New} {
+			switch {
+			case it.Old.Name == it.New.Name:
+			case entry.IsGitlink():
+				// (as git shows it)
+				texts[at][side] = []byte("Subproject commit " + entry.Name.String() + "\n")
+			case entry.IsBlob():
+				names, places = append(names, entry.Name), append(places, [2]int{at, side})
+			}
+		}
+	}
+	compare := func(end int) {
+		for at := len(files); at < end; at++ {
+			files = append(files, d.file(at, texts[at]))
+			texts[at] = [2][]byte{}
+		}
+	}
+	err = d.visit.Repository.Objects(ctx, names, func(o tenants.Object) error {
+		at := places[0]
+		texts[at[0]][at[1]] = o.Contents
+		d.read += len(o.Contents)
+		if places = places[1:]; len(places) == 0 || places[0][0] != at[0] {
+			compare(at[0] + 1)
+		}
+		if d.isFull() {
+			return errFull
+		}
+		return nil
+	})
+	if errors.Is(err, errFull) {
+		err = nil
+	}
+	compare(len(d.all))
+	return files, err
+}
+
+// file compares a file.
+func (d *differ) file(at int, texts [2][]byte) *fileDiff {
+	it, old, new := d.all[at], texts[0], texts[1]
+	f := &fileDiff{Path: visible(it.Path()), ID: fmt.Sprintf("file-%d", at+1), Change: "changed"}
 	switch {
 	case it.Old.Name.IsZero():
 		f.Change = "added"
@@ -97,21 +135,13 @@ func (d *differ) file(ctx context.Context, number int, it browse.Change) (*fileD
 		f.Mode = "mode " + it.Old.Mode + " became " + it.New.Mode
 	}
 	if it.New.IsBlob() {
-		f.URL = at.At(Blob, d.after, it.New.Path).URL()
+		f.URL = d.visit.Place.At(Blob, d.after, it.New.Path).URL()
 	} else if it.Old.IsBlob() {
-		f.URL = at.At(Blob, d.before, it.Old.Path).URL()
-	}
-	old, err := d.contents(ctx, it.Old)
-	if err != nil {
-		return nil, err
-	}
-	new, err := d.contents(ctx, it.New)
-	if err != nil {
-		return nil, err
+		f.URL = d.visit.Place.At(Blob, d.before, it.Old.Path).URL()
 	}
 	switch {
 	case it.Old.Name == it.New.Name:
-	case d.lines > mostDiffLines || d.read > mostDiffRead:
+	case d.isFull():
 		f.Why = "This page has shown enough, so the difference is left out."
 	case len(old) > mostDiffBytes || len(new) > mostDiffBytes:
 		f.Why = "The file is large, so the difference is left out."
@@ -120,27 +150,16 @@ func (d *differ) file(ctx context.Context, number int, it browse.Change) (*fileD
 	default:
 		d.hunks(f, linediff.Compare(string(old), string(new)))
 	}
-	return f, nil
-}
-
-// contents reads a file before or after; for a submodule a line that names its commit, as git shows it.
-func (d *differ) contents(ctx context.Context, it browse.Entry) ([]byte, error) {
-	switch {
-	case it.Name.IsZero() || d.lines > mostDiffLines || d.read > mostDiffRead:
-		return nil, nil
-	case it.IsGitlink():
-		return []byte("Subproject commit " + it.Name.String() + "\n"), nil
-	}
-	o, err := browse.Object(ctx, d.visit.Repository, it.Name)
-	d.read += len(o.Contents)
-	return o.Contents, err
+	return f
 }
 
 var markNames = map[byte]string{' ': "same", '-': "del", '+': "add"}
 
+// hunks writes the hunks of a file, whose lines have the names of their marks as classes.
 func (d *differ) hunks(f *fileDiff, hunks []linediff.Hunk) {
+	var w lines
 	for _, h := range hunks {
-		it := hunk{Head: headOfHunk(h)}
+		isEmpty := true
 		for _, l := range h.Lines {
 			switch l.Mark {
 			case '+':
@@ -152,15 +171,30 @@ func (d *differ) hunks(f *fileDiff, hunks []linediff.Hunk) {
 				f.Why = "This page has shown enough, so the rest of the difference is left out."
 				continue
 			}
-			it.Lines = append(it.Lines, diffLine{markNames[l.Mark], l.Old, l.New, string(l.Mark) + line(l.Text)})
+			if isEmpty {
+				w.add(`<span class="line head">`, headOfHunk(h), "\n</span>")
+				isEmpty = false
+			}
+			w.diffLine(markNames[l.Mark], numberOf(l.Old), numberOf(l.New), string(l.Mark), line(l.Text))
 			if !strings.HasSuffix(l.Text, "\n") {
-				it.Lines = append(it.Lines, diffLine{"none", 0, 0, `\ No newline at end of file`})
+				w.diffLine("none", "", "", "", `\ No newline at end of file`)
 			}
 		}
-		if len(it.Lines) > 0 {
-			f.Hunks = append(f.Hunks, it)
-		}
 	}
+	f.Hunks = w.HTML()
+}
+
+// diffLine adds a line of a difference.
+func (w *lines) diffLine(class, old, new, mark, text string) {
+	w.add(`<span class="line `, class, `"><i data-o="`, old, `" data-n="`, new, `"></i>`, mark, "", text, "\n</span>")
+}
+
+// numberOf is the number of a line, or "" where it is in no line of that side.
+func numberOf(number int) string {
+	if number == 0 {
+		return ""
+	}
+	return strconv.Itoa(number)
 }
 
 // headOfHunk is a hunk's line with two @@, as diff -u has it.

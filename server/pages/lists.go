@@ -142,18 +142,17 @@ func (v Visit) refRows(ctx context.Context, refs []tenants.Ref, head string) ([]
 
 // commits reads commits; zeros are passed over.
 func (v Visit) commits(ctx context.Context, names []tenants.Name) (map[tenants.Name]*browse.Commit, error) {
-	read := map[tenants.Name]*browse.Commit{{}: nil}
-	var unread []tenants.Name
-	for _, name := range names {
-		if _, is := read[name]; !is {
-			read[name] = nil
-			unread = append(unread, name)
-		}
-	}
-	return read, v.Repository.Objects(ctx, unread, func(o tenants.Object) (err error) {
+	read := map[tenants.Name]*browse.Commit{}
+	return read, browse.Objects(ctx, v.Repository, names, func(o tenants.Object) (err error) {
 		read[o.Name], err = browse.ReadCommit(o)
 		return err
 	})
+}
+
+// objects reads objects in the same way.
+func (v Visit) objects(ctx context.Context, names []tenants.Name) (map[tenants.Name]tenants.Object, error) {
+	read := map[tenants.Name]tenants.Object{}
+	return read, browse.Objects(ctx, v.Repository, names, func(o tenants.Object) error { read[o.Name] = o; return nil })
 }
 
 // shortRef is the name of a ref as people say it.

@@ -1,7 +1,7 @@
 // Package pages answers browsers: what a tenant has, as HTML that needs no script and nothing from elsewhere.
 //
-// It does not ask who may see what: its caller has let the user in. Whatever comes from a tenant is escaped by html/template, or is
-// sent as plain bytes that no browser takes for a page.
+// It does not ask who may see what: its caller has let the user in. Whatever comes from a tenant is escaped by html/template, in
+// lines of files as html/template does, or is sent as plain bytes that no browser takes for a page.
 package pages
 
 import (

@@ -2,6 +2,7 @@ package pages
 
 import (
 	"fmt"
+	"html/template"
 	"strings"
 	"time"
 	"unicode/utf8"
@@ -15,6 +16,9 @@ func visible(text string) string { return shown(text, "") }
 func block(text string) string { return shown(text, "\n\t") }
 
 func shown(text, kept string) string {
+	if isPlain(text, kept) {
+		return text
+	}
 	return strings.Map(func(r rune) rune {
 		switch {
 		case r < ' ' && strings.ContainsRune(kept, r):
@@ -29,6 +33,36 @@ func shown(text, kept string) string {
 		return r
 	}, strings.ToValidUTF8(text, "\ufffd"))
 }
+
+// isPlain tells whether a text has nothing but what ASCII prints, and controls that are kept; so most lines need no more.
+func isPlain(text, kept string) bool {
+	for at := 0; at < len(text); at++ {
+		if b := text[at]; (b < ' ' || b > '~') && strings.IndexByte(kept, b) < 0 {
+			return false
+		}
+	}
+	return true
+}
+
+// escaper writes text as html/template does between elements, and in an attribute that is no URL.
+var escaper = strings.NewReplacer("\x00", "\ufffd", `"`, "&#34;", "&", "&amp;", "'", "&#39;", "+", "&#43;", "<", "&lt;", ">", "&gt;")
+
+// lines is the HTML of lines, which templates would take long for.
+type lines struct{ to strings.Builder }
+
+// add adds HTML and text by turns; the text is escaped.
+func (w *lines) add(all ...string) {
+	for at, it := range all {
+		if at%2 == 0 {
+			w.to.WriteString(it)
+		} else {
+			_, _ = escaper.WriteString(&w.to, it)
+		}
+	}
+}
+
+// HTML is all that was added.
+func (w *lines) HTML() template.HTML { return template.HTML(w.to.String()) }
 
 // isTurning tells whether a character changes the direction of text that comes after it.
 func isTurning(r rune) bool { return 0x202a <= r && r <= 0x202e || 0x2066 <= r && r <= 0x2069 }

@@ -211,22 +211,21 @@ func (v Visit) find(ctx context.Context) (f found, err error) {
 	if err != nil {
 		return f, err
 	}
-	if !names[0].IsZero() {
-		if f.commit, err = commitOf(ctx, v.Repository, at.Revision); err != nil || f.commit == nil {
-			return f, err
-		}
-		if at.Path == "" {
-			names[1] = f.commit.Tree
-		}
+	isCommit := !names[0].IsZero()
+	if isCommit && at.Path == "" {
+		names[1] = names[2]
 	}
-	if f.object, err = browse.Object(ctx, v.Repository, names[1]); err != nil || at.Path == "" {
+	if names[1].IsZero() {
+		return f, tenants.ErrMissing
+	}
+	read, err := v.objects(ctx, names)
+	if f.object = read[names[1]]; err == nil && isCommit {
+		f.commit, err = browse.ReadCommit(read[names[0]])
+	}
+	if err != nil || at.Path == "" {
 		return f, err
 	}
-	parent, err := browse.Object(ctx, v.Repository, names[2])
-	if err != nil {
-		return f, err
-	}
-	entries, err := browse.Entries(parent)
+	entries, err := browse.Entries(read[names[2]])
 	for _, it := range entries {
 		if it.Path == path.Base(at.Path) {
 			f.entry = it

@@ -4,12 +4,15 @@ import (
 	"context"
 	"encoding/xml"
 	"fmt"
+	"html/template"
 	"net/http"
 	"net/url"
 	"strings"
 	"testing"
 	"time"
+	"unicode/utf8"
 
+	"gitpoold/browse"
 	"gitpoold/tenants"
 )
 
@@ -48,6 +51,31 @@ func TestLinesAreChosen(t *testing.T) {
 		if got := fmt.Sprintf("%d-%d %s", c.from, c.to, c.url(7)); got != want {
 			t.Errorf("%q: %s", text, got)
 		}
+	}
+}
+
+func TestLinesAreEscapedAsByTemplates(t *testing.T) {
+	all := []rune{utf8.RuneError, 0x2028, 0xfdd0, 0x10ffff}
+	for r := rune(0); r < 0x300; r++ {
+		all = append(all, r)
+	}
+	var want strings.Builder
+	var w lines
+	w.add(`<i title="`, string(all), `">`, string(all), `</i>`)
+	if err := template.Must(template.New("").Parse(`<i title="{{.}}">{{.}}</i>`)).Execute(&want, string(all)); err != nil || string(w.HTML()) != want.String() {
+		t.Fatalf("%v\n%q\n%q", err, w.HTML(), want.String())
+	}
+}
+
+func TestLinesOfCommitsFurtherBack(t *testing.T) {
+	c := &code{Lines: []codeLine{{number: 1, url: "#L1"}, {number: 2, url: "#L2"}, {number: 3, url: "#L3"}}}
+	note := Visit{}.accuse(c.Lines, []browse.Blamed{{}, {}, {Commit: &browse.Commit{}, Path: "a", Line: 1}})
+	if note != "2 lines are of commits further back than this page looks. " {
+		t.Error(note)
+	}
+	const back = `<span class="line first even" id="L1"><span class="by">further back</span><a href="#L1" data-n="1" tabindex="-1" aria-hidden="true"></a>`
+	if text := string(c.HTML()); !strings.HasPrefix(text, back) || strings.Count(text, "further back") != 1 {
+		t.Error(text)
 	}
 }
 

@@ -8,7 +8,7 @@ import (
 )
 
 // ErrInRedis says that what the journals have is not in this folder.
-var ErrInRedis = errors.New(`the journal is in Redis, of which no backup is made here (docs/SERVER.md, "Backup, restore, upgrade")`)
+var ErrInRedis = errors.New(`the journal is in Redis, of which no backup is made here (docs/SERVER-REFERENCE.md, "Backup, restore, upgrade")`)
 
 // Still does something while nothing changes in any pool file or journal: no step comes to a child, nothing is saved, and no operator changes a
 // tenant. Whoever pushes or asks waits meanwhile. It is ErrInRedis where the journals are not in files.

@@ -1,6 +1,6 @@
 """Strikes at a service: kills, stops, failovers and jumps of clocks, which nobody may notice but by waiting; and damage, which has to be told.
 
-A strike of the first kind comes while owners are at work. One of the second kind ends with what docs/SERVER.md and docs/DEPLOY.md tell the operator
+A strike of the first kind comes while owners are at work. One of the second kind ends with what the pages of docs/ tell the operator
 to do; then too all that was told has to be there.
 """
 from __future__ import annotations
@@ -345,7 +345,7 @@ class Strikes(FollowerStrikes):
         assert found == status and any(it in told for it in says), f"the server ended with {found}: {told[-1500:]}"
 
     def rescued(self) -> None:
-        """Does what docs/SERVER.md says after a lost end: takes what the server kept, and begins the logs anew under other keys. The follower has ended
+        """Does what docs/DEPLOY.md says after a lost end: takes what the server kept, and begins the logs anew under other keys. The follower has ended
         too, and has kept what it had."""
         service, follower = self.service, self.follower()
         wait_until(lambda: follower.status() is not None, "the follower goes on although its log lost records")

@@ -9,3 +9,6 @@ pub mod SoundFiles
 pub mod Savings
 pub mod Objects
 pub mod Saves
+pub mod Counts
+pub mod Named
+pub mod Covered

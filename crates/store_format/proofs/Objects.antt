@@ -14,7 +14,7 @@ use Rattle.store_format.specs.Saves.{numbered_after}
 use Rattle.store_format.specs.Tails.{Follow}
 use Rattle.store_format.specs.Saying.{Numbered, Told, first_of, contents_of, file_of, bytes_from, object_of, objects_of, told_after, all_told}
 
--- More rows say more objects, behind those before.
+-- More rows say more objects, after those before.
 pub objects_append : (files : List Numbered) (rs more : List Row) (xs ys : List RawObject) → objects_of files rs ≡ Ok xs → objects_of files more ≡ Ok ys
     → objects_of files (rs ++ more) ≡ Ok (xs ++ ys)
 unfolding objects_of

@@ -10,7 +10,7 @@ pub record RefChange : Type 0 where
   pub target : Option ℕ
 
 -- A record: the tenant's name; the number of an earlier record, from 0, if it stands on one; how
--- many objects of that record come first; the numbers of the rows of the objects behind them; how
+-- many objects of that record come first; the numbers of the rows of the objects after them; how
 -- its refs differ from those of that record; and the ref that HEAD names.
 pub record TenantRecord : Type 0 where
   pub name : List ℕ

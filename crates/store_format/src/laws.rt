@@ -4,17 +4,20 @@ ghost use Rattle.std.specs.Prelude.{◌≡◌, ℕ, ◌<◌, ◌^◌, List, ◌+
 ghost use Rattle.std.specs.List.{flat_map, AllByRecursion};
 ghost use Rattle.byte_devices.specs.Reading.{AreBytes};
 ghost use Rattle.git_model.specs.{Repository.{Object}, HeldObjects.{IsHeldObject}};
-ghost use Rattle.pool_file_format.specs.Format.{RawFile};
+ghost use Rattle.pool_file_format.specs.Format.{RawFile, RawObject};
 ghost use Rattle.store_format.specs.Rows.{Summary, Row, FitsSummary, FitsRow, row_text, row_for};
 ghost use Rattle.store_format.specs.Lengths.{row_at, record_at, state_of_bytes};
 ghost use Rattle.store_format.specs.Records.{TenantRecord, FitsRecord, record_text};
 ghost use Rattle.store_format.specs.State.{State, Listing, FitsState, body_text, state_text};
 ghost use Rattle.store_format.specs.Saves.{Appended, listing_after, appended_to, files_after};
 ghost use Rattle.store_format.specs.Saves.{state_after, counted_after, Meets, file_after};
-ghost use Rattle.store_format.specs.Saying.{Files, Counted, listed, counted_in, says};
+ghost use Rattle.store_format.specs.Saying.{Files, Counted, Numbered, listed, counted_in, says};
+ghost use Rattle.store_format.specs.Saying.{contents_of, objects_of};
+ghost use Rattle.store_format.specs.{Sound.{IsSoundState}, Tiling.{AreTiled}};
+ghost use Rattle.store_format.specs.Tiling.{object_bytes, file_bytes};
 ghost use Rattle.store_format.specs.Tails.{HaveGrown, Covers};
 
-/// The crash law: what is behind the bytes that count, and in other files, does not matter. So
+/// The crash law: what follows the bytes that count, and in other files, does not matter. So
 /// until its state is replaced, a store says what it said, whatever a save has appended.
 pub fn what_follows_does_not_count()
     ensures same { (digest : List ℕ → List ℕ) (s : State) (old new : Files) → Covers s old
@@ -57,7 +60,7 @@ pub fn a_record_has_one_text()
         → record_at bytes ≡ Ok x → (bytes ≡ record_text x.0 ++ x.1) × FitsRecord x.0 }
 {}
 
-/// The save law of a listing: behind the bytes that count, more rows are appended, and the state
+/// The save law of a listing: after the bytes that count, more rows are appended, and the state
 /// counts them and goes on with the chain. Then the listing has the old rows, and these after them.
 pub fn appended_rows_are_read()
     ensures { (digest : List ℕ → List ℕ) (l : Listing) (bytes : List ℕ) (old new : List Row)
@@ -95,4 +98,13 @@ pub fn what_is_saved_is_said()
         → counted_in digest s f ≡ Ok old
         → says digest (state_after digest s a) (files_after s f a)
         ≡ Ok (file_after m.was m.added m.tells) }
+{}
+
+/// Contents that lie one after the other are all bytes of the files: what the rows say, in their
+/// order, is what the files have, in theirs. So no byte that counts is that of no row, or of two.
+pub fn each_byte_is_that_of_one_row()
+    ensures { (s : State) (bytes : List (List ℕ)) (files : List Numbered) (rows : List Row)
+        (objects : List RawObject) → IsSoundState s → contents_of s.contents bytes ≡ Ok files
+        → AreTiled s.contents rows → objects_of files rows ≡ Ok objects
+        → flat_map object_bytes objects ≡ flat_map file_bytes files }
 {}

@@ -31,7 +31,7 @@ fn counted_bytes<'a>(listing: &Listing, bytes: &'a [u8]) -> Result<&'a [u8], Fau
 }
 
 /// Reads the rows that a state counts from the bytes of their file, and checks their chain under
-/// this naming. Bytes behind the size of the listing do not count.
+/// this naming. Bytes after the size of the listing do not count.
 ///
 /// `CutOff` (62) if the file is shorter than its size, or the last row is cut; `TrailingBytes` (69)
 /// if there are bytes between the last row and the size; after that, `WrongDigest` (63) if the chain
@@ -57,7 +57,7 @@ pub fn read_rows<N: Naming>(
 }
 
 /// Reads the records that a state counts from the bytes of their file, and checks their chain under
-/// this naming. Bytes behind the size of the listing do not count.
+/// this naming. Bytes after the size of the listing do not count.
 ///
 /// The same faults as `read_rows`.
 #[tactic(auto, unfolding(crate::specs::Saying::listed))]

@@ -21,7 +21,7 @@ pub struct TenantRecord {
     pub base: Option<u32>,
     /// How many objects of that record come first.
     pub shared: u32,
-    /// The rows of the objects behind them, by their numbers from 0.
+    /// The rows of the objects after them, by their numbers from 0.
     pub numbers: Vec<u32>,
     /// How the refs differ from those of that record.
     pub changes: Vec<RefChange>,

@@ -1,5 +1,6 @@
 //! The tests, and the store that they share.
 
 mod checked;
+mod judged;
 mod stored;
 mod whole;

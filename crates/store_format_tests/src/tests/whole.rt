@@ -17,8 +17,8 @@ enum Part {
     Records,
 }
 
-// The number of a fault, and 0 where there is none.
-fn code_of<T: Drop>(answer: Result<T, Fault>) -> u16 {
+/// The number of a fault, and 0 where there is none.
+pub fn code_of<T: Drop>(answer: Result<T, Fault>) -> u16 {
     match answer {
         Ok(_) => 0,
         Err(fault) => fault.code(),
@@ -49,7 +49,8 @@ fn code_with(alloc: Global, part: Part, bytes: &[u8]) -> u16 {
     }
 }
 
-fn add_one(bytes: &mut [u8], place: usize) {
+/// Makes a byte greater by one.
+pub fn add_one(bytes: &mut [u8], place: usize) {
     if place < bytes.len() {
         bytes[place] = bytes[place].wrapping_add(1);
     }
@@ -215,7 +216,7 @@ fn refuses_each_shorter_front(rt: HostRuntime) {
 }
 
 #[test]
-fn counts_no_byte_behind_the_sizes(rt: HostRuntime) {
+fn counts_no_byte_after_the_sizes(rt: HostRuntime) {
     assert!(rt; code_with_more(rt.alloc(), Part::State, STATE) == Ok(69));
     assert!(rt; code_with_more(rt.alloc(), Part::Rows, ROWS) == Ok(0));
     assert!(rt; code_with_more(rt.alloc(), Part::Records, RECORDS) == Ok(0));
