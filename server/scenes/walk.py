@@ -1,4 +1,4 @@
-"""A newcomer's walk: a site from nothing, by the commands of docs/SERVER.md and docs/DEPLOY.md alone, each as it is typed there."""
+"""A newcomer's walk: a site from nothing, by the commands of the server's pages in docs/ alone, each as it is typed there."""
 from __future__ import annotations
 
 import hashlib
