@@ -25,10 +25,10 @@ import (
 	"gitpoold/audit"
 	"gitpoold/backups"
 	"gitpoold/catalogue"
+	"gitpoold/configfile"
 	"gitpoold/hooks"
 	"gitpoold/lfs"
 	"gitpoold/limits"
-	"gitpoold/lists"
 	"gitpoold/mirrors"
 	"gitpoold/operator"
 	"gitpoold/protect"
@@ -84,10 +84,10 @@ var listed = []struct{ name, comment string }{
 func createLists(folder string) error {
 	for _, it := range listed {
 		path := filepath.Join(folder, it.name)
-		if _, err := lists.Read(path); err != nil {
+		if _, err := configfile.Read(path); err != nil {
 			return err
 		}
-		if err := createFile(path, lists.Text(it.comment)); err != nil {
+		if err := createFile(path, configfile.Text(it.comment)); err != nil {
 			return err
 		}
 	}
@@ -100,7 +100,7 @@ func beginLists(folder string) error {
 	for at, it := range listed {
 		names[at] = it.name
 	}
-	return lists.Begin(folder, names...)
+	return configfile.Begin(folder, names...)
 }
 
 // runInit makes what a folder lacks.
@@ -109,7 +109,7 @@ func runInit(l line) error {
 	if err != nil {
 		return err
 	}
-	folder := l.folder()
+	folder := l.folder
 	if err := os.MkdirAll(folder, 0o700); err != nil {
 		return err
 	}
@@ -172,7 +172,7 @@ func shardCount(l line, logs int) (int, error) {
 		return logs, nil
 	}
 	if !has {
-		return shards.Count(l.folder()), nil
+		return shards.Count(l.folder), nil
 	}
 	count, err := strconv.Atoi(text)
 	if err != nil || count < 1 || count > mostShards {
@@ -189,16 +189,9 @@ const mostShards = 1000
 
 // createFile makes a file, unless there is one.
 func createFile(path, text string) error {
-	file, err := os.OpenFile(path, os.O_WRONLY|os.O_CREATE|os.O_EXCL, 0o600)
+	err := regular.Create(path, text, filepath.Dir(path), 0o600)
 	if errors.Is(err, os.ErrExist) {
 		return nil
-	}
-	if err != nil {
-		return err
-	}
-	_, err = file.WriteString(text)
-	if closing := file.Close(); err == nil {
-		err = closing
 	}
 	return err
 }
@@ -229,10 +222,10 @@ func createHostKey(path string, make func() (crypto.Signer, error)) error {
 
 // change lets a command change a list. The audit has it before, and a running server has read the list afterwards; else it is an error.
 func change(l line, list string, do func() error, more ...string) error {
-	folder, who := l.folder(), audit.Self()
-	what := webhooks.ShownLine(strings.Join(append(append([]string{l.name()}, l.words[1:len(l.words)-1]...), more...), " "))
+	folder, who := l.folder, audit.Self()
+	what := webhooks.ShownLine(strings.Join(append(append([]string{l.name}, l.words...), more...), " "))
 	isNoted := false
-	lists.Before = func() (err error) {
+	configfile.Before = func() (err error) {
 		if !isNoted {
 			err = audit.Note(folder, who, what, nil)
 			isNoted = err == nil
@@ -253,9 +246,9 @@ func change(l line, list string, do func() error, more ...string) error {
 
 // runUser gives a user a password or keys, or takes a key away.
 func runUser(l line) error {
-	user := l.words[1]
+	user := l.words[0]
 	if wanted, has := l.flags["--remove-key"]; has {
-		return change(l, "access", func() error { return access.RemoveKey(l.folder(), user, wanted) }, "without", wanted)
+		return change(l, "access", func() error { return access.RemoveKey(l.folder, user, wanted) }, "without", wanted)
 	}
 	if path, has := l.flags["--key"]; has {
 		text, err := os.ReadFile(path)
@@ -263,7 +256,7 @@ func runUser(l line) error {
 			return err
 		}
 		return change(l, "access", func() error {
-			_, err := access.AddKeys(l.folder(), user, text)
+			_, err := access.AddKeys(l.folder, user, text)
 			return err
 		}, access.Fingerprints(text)...)
 	}
@@ -271,7 +264,7 @@ func runUser(l line) error {
 	if err != nil {
 		return err
 	}
-	return change(l, "access", func() error { return access.SetPassword(l.folder(), user, password) }, "password")
+	return change(l, "access", func() error { return access.SetPassword(l.folder, user, password) }, "password")
 }
 
 // readPassword reads a line from standard input; from a terminal without showing it.
@@ -299,54 +292,51 @@ func stty(word string) error {
 
 // runGrant lets a user do something. One who has no password and no key may be a name that was mistyped.
 func runGrant(l line) error {
-	user, pattern, right := l.words[1], l.words[2], l.words[3]
+	user, pattern, right := l.words[0], l.words[1], l.words[2]
 	if err := access.CheckGrant(user, pattern, right); err != nil {
 		return err
 	}
-	isKnown, err := access.IsKnown(l.folder(), user)
+	isKnown, err := access.IsKnown(l.folder, user)
 	if err == nil && !isKnown {
 		err = fmt.Errorf("there is no user or group %s; `gitpoold user` and `gitpoold group` make them", user)
 	}
 	if err != nil {
 		return err
 	}
-	return change(l, "access", func() error { return access.Grant(l.folder(), user, pattern, right) })
+	return change(l, "access", func() error { return access.Grant(l.folder, user, pattern, right) })
 }
 
 func runRevoke(l line) error {
-	pattern := ""
-	if len(l.words) == 4 {
-		pattern = l.words[2]
-	}
-	return change(l, "access", func() error { return access.Revoke(l.folder(), l.words[1], pattern) })
+	words := append(l.words, "")
+	return change(l, "access", func() error { return access.Revoke(l.folder, words[0], words[1]) })
 }
 
 // runBlock blocks a user or a tenant, or lists the blocks.
 func runBlock(l line) error {
-	words := append(l.words[1:len(l.words)-1:len(l.words)-1], "")
+	words := append(l.words, "")
 	if len(words) >= 3 {
-		return change(l, "access", func() error { return access.Block(l.folder(), words[0], words[1], words[2]) })
+		return change(l, "access", func() error { return access.Block(l.folder, words[0], words[1], words[2]) })
 	}
 	if len(words) == 2 {
 		return errors.New("say `user NAME` or `tenant NAME`")
 	}
-	return printLines(access.Blocks(l.folder()))
+	return printLines(access.Blocks(l.folder))
 }
 
 func runUnblock(l line) error {
-	return change(l, "access", func() error { return access.Unblock(l.folder(), l.words[1], l.words[2]) })
+	return change(l, "access", func() error { return access.Unblock(l.folder, l.words[0], l.words[1]) })
 }
 
 // runGroup lists the groups, or changes one.
 func runGroup(l line) error {
-	words := l.words[1 : len(l.words)-1]
+	words := l.words
 	switch {
 	case len(words) == 0:
-		return printLines(access.Members(l.folder()))
+		return printLines(access.Members(l.folder))
 	case len(words) == 3 && words[0] == "add":
-		return change(l, "access", func() error { return addMember(l.folder(), words[1], words[2]) })
+		return change(l, "access", func() error { return addMember(l.folder, words[1], words[2]) })
 	case len(words) == 3 && words[0] == "remove":
-		return change(l, "access", func() error { return access.RemoveMember(l.folder(), words[1], words[2]) })
+		return change(l, "access", func() error { return access.RemoveMember(l.folder, words[1], words[2]) })
 	}
 	return errors.New("say `add @GROUP MEMBER` or `remove @GROUP MEMBER`")
 }
@@ -365,14 +355,14 @@ func addMember(folder, group, member string) error {
 
 // runToken lists the tokens, makes one, or takes one away.
 func runToken(l line) error {
-	words := l.words[1 : len(l.words)-1]
+	words := l.words
 	switch {
 	case len(words) == 0:
-		return printLines(access.Tokens(l.folder()))
+		return printLines(access.Tokens(l.folder))
 	case len(words) == 5 && words[0] == "add":
 		return addToken(l, words[1], words[2], words[3], words[4])
 	case len(words) == 2 && words[0] == "remove":
-		return change(l, "access", func() error { return access.RemoveToken(l.folder(), words[1]) })
+		return change(l, "access", func() error { return access.RemoveToken(l.folder, words[1]) })
 	}
 	return errors.New("say `add USER PATTERN r|rw END` or `remove TOKEN`")
 }
@@ -383,7 +373,7 @@ func addToken(l line, user, pattern, right, end string) error {
 	if err != nil {
 		return err
 	}
-	isKnown, err := access.IsKnown(l.folder(), user)
+	isKnown, err := access.IsKnown(l.folder, user)
 	if err == nil && (!isKnown || !access.ValidUser(user)) {
 		err = fmt.Errorf("there is no user %s; `gitpoold user` makes one", user)
 	}
@@ -394,7 +384,7 @@ func addToken(l line, user, pattern, right, end string) error {
 	if err != nil {
 		return err
 	}
-	err = change(l, "access", func() error { return access.AddToken(l.folder(), login, secret, pattern, right, until) }, login)
+	err = change(l, "access", func() error { return access.AddToken(l.folder, login, secret, pattern, right, until) }, login)
 	if err == nil {
 		fmt.Printf("%s %s\n", login, secret)
 	}
@@ -402,7 +392,7 @@ func addToken(l line, user, pattern, right, end string) error {
 }
 
 // runUsers lists the users.
-func runUsers(l line) error { return printLines(access.Users(l.folder())) }
+func runUsers(l line) error { return printLines(access.Users(l.folder)) }
 
 func printLines(all []string, err error) error {
 	for _, it := range all {
@@ -412,12 +402,12 @@ func printLines(all []string, err error) error {
 }
 
 // runAudit prints what operators changed.
-func runAudit(l line) error { return audit.Print(l.folder(), os.Stdout) }
+func runAudit(l line) error { return audit.Print(l.folder, os.Stdout) }
 
 // runLimits lists the limits, or sets one.
 func runLimits(l line) error {
-	path := filepath.Join(l.folder(), "limits")
-	words := l.words[1 : len(l.words)-1]
+	path := filepath.Join(l.folder, "limits")
+	words := l.words
 	if len(words) == 1 {
 		return fmt.Errorf("`%s` has no value", words[0])
 	}
@@ -437,33 +427,33 @@ func runLimits(l line) error {
 
 // runHooks lists the hooks, or changes them.
 func runHooks(l line) error {
-	words := l.words[1 : len(l.words)-1]
+	words := l.words
 	switch {
 	case len(words) > 2 && words[0] == "add":
-		return change(l, "hooks", func() error { return hooks.Add(l.folder(), words[1:]...) })
+		return change(l, "hooks", func() error { return hooks.Add(l.folder, words[1:]...) })
 	case len(words) > 2 && words[0] == "remove":
-		return change(l, "hooks", func() error { return hooks.Remove(l.folder(), words[1:]...) })
+		return change(l, "hooks", func() error { return hooks.Remove(l.folder, words[1:]...) })
 	case len(words) > 0:
 		return errors.New("say `add PATTERN [pre-receive|update] WHERE` or `remove PATTERN [pre-receive|update] WHERE`")
 	}
-	return printLines(hooks.Rows(l.folder()))
+	return printLines(hooks.Rows(l.folder))
 }
 
 // runLFS lists the tenants that keep files of Git LFS, or switches that on or off for some.
 func runLFS(l line) error {
-	words := l.words[1 : len(l.words)-1]
+	words := l.words
 	switch {
 	case len(words) == 0:
-		return printLines(lfs.Rows(l.folder()))
+		return printLines(lfs.Rows(l.folder))
 	case len(words) == 2 && (words[1] == "on" || words[1] == "off"):
-		return change(l, lfs.ListName, func() error { return lfs.Switch(l.folder(), words[0], words[1] == "on") })
+		return change(l, lfs.ListName, func() error { return lfs.Switch(l.folder, words[0], words[1] == "on") })
 	}
 	return errors.New("say `TENANT on` or `TENANT off`")
 }
 
 // runBackup keeps what a folder has in a folder of backups, as of a moment while its server runs, or as it is while none does.
 func runBackup(l line) error {
-	folder, to, keep := l.folder(), l.words[1], 1
+	folder, to, keep := l.folder, l.words[0], 1
 	if text, has := l.flags["--keep"]; has {
 		var err error
 		if keep, err = strconv.Atoi(text); err != nil || keep < 1 {
@@ -495,7 +485,7 @@ func holdAll(folder string) (release func(), err error) {
 	if err != nil {
 		return nil, err
 	}
-	unlock, err := lists.Lock(folder)
+	unlock, err := configfile.Lock(folder)
 	if err != nil {
 		held()
 		return nil, err
@@ -505,7 +495,7 @@ func holdAll(folder string) (release func(), err error) {
 
 // runRestore makes a folder of a backup.
 func runRestore(l line) error {
-	name, err := backups.Restore(l.words[0], l.flags["--moment"], l.words[1])
+	name, err := backups.Restore(l.folder, l.flags["--moment"], l.words[0])
 	if err == nil {
 		fmt.Println(name)
 	}
@@ -514,9 +504,9 @@ func runRestore(l line) error {
 
 // runCall sends a command to the running server.
 func runCall(l line) error {
-	text, err := operator.Call(socket(l), append([]string{l.name()}, l.words[1:len(l.words)-1]...)...)
+	text, err := operator.Call(socket(l), append([]string{l.name}, l.words...)...)
 	if errors.Is(err, operator.ErrNoServer) {
-		return fmt.Errorf("no server runs in %s; start one with `gitpoold serve`", l.folder())
+		return fmt.Errorf("no server runs in %s; start one with `gitpoold serve`", l.folder)
 	}
 	fmt.Print(text)
 	return err
@@ -527,5 +517,5 @@ func socket(l line) string {
 	if path := l.flags["--socket"]; path != "" {
 		return path
 	}
-	return filepath.Join(l.folder(), "socket")
+	return filepath.Join(l.folder, "socket")
 }

@@ -12,9 +12,9 @@ var describeCommand = command{"describe", "DIR [TENANT TEXT]",
 
 // runDescribe lists the descriptions, or changes one.
 func runDescribe(l line) error {
-	words := l.words[1 : len(l.words)-1]
+	words := l.words
 	if len(words) < 2 {
-		return printLines(catalogue.Rows(l.folder()))
+		return printLines(catalogue.Rows(l.folder))
 	}
-	return change(l, catalogue.FileName, func() error { return catalogue.Describe(l.folder(), words[0], strings.Join(words[1:], " ")) })
+	return change(l, catalogue.FileName, func() error { return catalogue.Describe(l.folder, words[0], strings.Join(words[1:], " ")) })
 }

@@ -1,7 +1,7 @@
 // For gopls, govulncheck and go vet. The server itself is built from Debian's packages, without network and without modules: see build.
 module gitpoold
 
-go 1.19
+go 1.23
 
 require (
 	github.com/gomodule/redigo v1.8.3

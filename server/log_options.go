@@ -39,7 +39,7 @@ func logOptions(l line) (all []journal.Options, err error) {
 			return nil, fmt.Errorf("`--replicas %s` is no number", text)
 		}
 	}
-	password, err := redisPassword(filepath.Join(l.folder(), "redis-password"))
+	password, err := redisPassword(filepath.Join(l.folder, "redis-password"))
 	if err != nil {
 		return nil, err
 	}

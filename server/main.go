@@ -5,13 +5,14 @@ import (
 	"errors"
 	"fmt"
 	"os"
+	"slices"
 	"strings"
 	"syscall"
 
 	"gitpoold/backups"
 	"gitpoold/builds"
+	"gitpoold/configfile"
 	"gitpoold/journal"
-	"gitpoold/lists"
 	"gitpoold/poolfile"
 	"gitpoold/regular"
 	"gitpoold/shards"
@@ -40,19 +41,15 @@ type command struct {
 	run   func(line line) error
 }
 
-// line is what the words of a run say: those that name things, and the values of flags.
+// line is what a run says: its command, the server's folder, which each command names first, the words behind it, and the values of flags.
 type line struct {
-	words []string
-	flags map[string]string
+	name   string
+	folder string
+	words  []string
+	flags  map[string]string
 	// logs has the values of `--log`, which may stand several times.
 	logs []string
 }
-
-// folder is the server's folder, which each command names first.
-func (l line) folder() string { return l.words[0] }
-
-// name is the command's own word, which stands behind the others.
-func (l line) name() string { return l.words[len(l.words)-1] }
 
 // logFlags are those of a journal in Redis, and switches the flags that have no value.
 var (
@@ -163,7 +160,6 @@ func (c command) start(words []string) int {
 		fmt.Fprintf(os.Stderr, "gitpoold: %v\nUsage: gitpoold %s %s\n", err, c.name, c.words)
 		return statusUsage
 	}
-	found.words = append(found.words, c.name)
 	if err := c.run(found); err != nil {
 		fmt.Fprintf(os.Stderr, "gitpoold: %v\n", err)
 		return statusOf(err)
@@ -176,7 +172,7 @@ func statusOf(err error) int {
 	var bad *journal.BadLog
 	var two *shards.TwoPlaces
 	var missing *shards.Missing
-	var lost *lists.Lost
+	var lost *configfile.Lost
 	var notFile *regular.NotFile
 	var backup *backups.Damaged
 	switch {
@@ -193,14 +189,14 @@ func statusOf(err error) int {
 
 // parse splits words into those that name things and flags with their values, in any order.
 func (c command) parse(words []string) (found line, err error) {
-	found.flags = map[string]string{}
+	found = line{name: c.name, flags: map[string]string{}}
 	for i := 0; i < len(words); i++ {
 		if !strings.HasPrefix(words[i], "--") {
 			found.words = append(found.words, words[i])
 			continue
 		}
 		name, value, hasValue := strings.Cut(words[i], "=")
-		if !c.takes(name) {
+		if !slices.Contains(c.flags, name) {
 			return found, fmt.Errorf("there is no option `%s`", name)
 		}
 		if !hasValue && !switches[name] {
@@ -218,16 +214,8 @@ func (c command) parse(words []string) (found line, err error) {
 	if len(found.words) < c.least || len(found.words) > c.most {
 		return found, fmt.Errorf("`%s` takes other words", c.name)
 	}
+	found.folder, found.words = found.words[0], found.words[1:]
 	return found, nil
-}
-
-func (c command) takes(flag string) bool {
-	for _, it := range c.flags {
-		if it == flag {
-			return true
-		}
-	}
-	return false
 }
 
 func help() string {

@@ -30,7 +30,7 @@ func runPushMirror(l line) error { return mirror(l, mirrors.Push, everyPush) }
 
 // mirror lists the mirrors of a kind, or changes or runs one.
 func mirror(l line, kind string, every time.Duration) error {
-	folder, words := l.folder(), l.words[1:len(l.words)-1]
+	folder, words := l.folder, l.words
 	switch {
 	case len(words) == 0:
 		return printLines(mirrors.Rows(folder, kind))
@@ -41,7 +41,7 @@ func mirror(l line, kind string, every time.Duration) error {
 		return change(l, "mirrors", func() error { return mirrors.Remove(folder, kind, words[1], url) })
 	case words[0] == "run" && len(words) == 2:
 		if _, mayDelete := l.flags["--deletions"]; mayDelete {
-			l.words = []string{folder, "run", words[1], "--deletions", l.name()}
+			l.words = append(words, "--deletions")
 		}
 		return runCall(l)
 	}
@@ -61,5 +61,5 @@ func addMirror(l line, m mirrors.Mirror) (err error) {
 		}
 	}
 	_, mayBeFile := l.flags["--allow-file"]
-	return change(l, "mirrors", func() error { return mirrors.Add(l.folder(), m, mayBeFile) }, "every", m.Every.String())
+	return change(l, "mirrors", func() error { return mirrors.Add(l.folder, m, mayBeFile) }, "every", m.Every.String())
 }

@@ -12,14 +12,14 @@ var protectCommand = command{"protect", "DIR [TENANT | add PATTERN REFS [RULE ..
 
 // runProtect lists the refs that are protected, protects some, or does so no more.
 func runProtect(l line) error {
-	words := l.words[1 : len(l.words)-1]
+	words := l.words
 	switch {
 	case len(words) > 2 && words[0] == "add":
-		return change(l, protect.FileName, func() error { return protect.Add(l.folder(), words[1], words[2], words[3:]) })
+		return change(l, protect.FileName, func() error { return protect.Add(l.folder, words[1], words[2], words[3:]) })
 	case len(words) == 3 && words[0] == "remove":
-		return change(l, protect.FileName, func() error { return protect.Remove(l.folder(), words[1], words[2]) })
+		return change(l, protect.FileName, func() error { return protect.Remove(l.folder, words[1], words[2]) })
 	case len(words) < 2:
-		return printLines(protect.Rows(l.folder(), append(words, "")[0]))
+		return printLines(protect.Rows(l.folder, append(words, "")[0]))
 	}
 	return errors.New("say `add PATTERN REFS [no-delete] [no-force] [only=USER,@GROUP]` or `remove PATTERN REFS`")
 }

@@ -10,16 +10,17 @@ import (
 	"os/signal"
 	"path/filepath"
 	"runtime"
-	"sync"
 	"syscall"
 	"time"
 
 	"golang.org/x/crypto/ssh"
+	"golang.org/x/sync/errgroup"
 
 	"gitpoold/access"
 	"gitpoold/catalogue"
 	"gitpoold/collector"
-	"gitpoold/daily"
+	"gitpoold/dailyquota"
+	"gitpoold/gateway"
 	"gitpoold/highlight"
 	"gitpoold/hooks"
 	"gitpoold/httpd"
@@ -37,7 +38,6 @@ import (
 	"gitpoold/quarantine"
 	"gitpoold/regular"
 	"gitpoold/shards"
-	"gitpoold/site"
 	"gitpoold/sshd"
 	"gitpoold/store"
 	"gitpoold/tenants"
@@ -45,11 +45,11 @@ import (
 
 // server is what a run of `serve` has open.
 type server struct {
-	line  line
-	store *shards.Set
-	site  *site.Site
-	door  *operator.Door
-	// mirrors are the same as those of the site.
+	line     line
+	store    *shards.Set
+	gateway  *gateway.Gateway
+	operator *operator.Server
+	// mirrors are the same as those of the gateway.
 	mirrors *mirrors.Keeper
 	// These are of https.
 	secured   *secured
@@ -81,14 +81,14 @@ func runServe(l line) error {
 		return err
 	}
 	close(serves)
-	failed := s.serve(ctx, stop, ways)
+	failed := s.serve(ctx, ways)
 	if err := s.store.Close(context.Background()); err != nil {
-		s.site.Log.Printf("the pool is not saved: %v; the journal has all of it", err)
+		s.gateway.Log.Printf("the pool is not saved: %v; the journal has all of it", err)
 	}
-	s.site.Hooks.Close()
-	s.site.Daily.Save()
-	s.site.Catalogue.Save()
-	s.site.Log.Printf("the server has ended")
+	s.gateway.Hooks.Close()
+	s.gateway.Daily.Save()
+	s.gateway.Catalogue.Save()
+	s.gateway.Log.Printf("the server has ended")
 	return failed
 }
 
@@ -131,7 +131,7 @@ const spareBytes = 64 << 20
 
 // open reads the folder and starts the child.
 func open(l line) (*server, error) {
-	folder := l.folder()
+	folder := l.folder
 	m := metrics.New()
 	log := logs.New(os.Stderr, m)
 	found, err := program(l.flags["--program"])
@@ -161,8 +161,8 @@ func open(l line) (*server, error) {
 	return serving, err
 }
 
-// serverOf gives a site its tenants, which are those of a pool.
-func serverOf(l line, pool *shards.Set, s *site.Site) (*server, error) {
+// serverOf gives a gateway its tenants, which are those of a pool.
+func serverOf(l line, pool *shards.Set, s *gateway.Gateway) (*server, error) {
 	files, err := openFiles(pool, s)
 	if err != nil {
 		return nil, err
@@ -175,7 +175,7 @@ func serverOf(l line, pool *shards.Set, s *site.Site) (*server, error) {
 	all.Bound(made)
 	all.Beside(files.Bytes)
 	s.Pool, s.Owners, s.LFS, s.Elsewhere = all, made, files, pool.Follows
-	s.Daily = daily.Open(filepath.Join(s.Folder, "usage"), s.Limits.Daily, s.Log.Printf)
+	s.Daily = dailyquota.Open(filepath.Join(s.Folder, "usage"), s.Limits.Daily, s.Log.Printf)
 	mirrored, err := mirrors.Open(s)
 	if err != nil {
 		return nil, err
@@ -184,13 +184,13 @@ func serverOf(l line, pool *shards.Set, s *site.Site) (*server, error) {
 	if s.Packs, err = packsOf(s); err != nil {
 		return nil, err
 	}
-	door := operator.New(s, pool)
-	door.Measure()
-	return &server{line: l, store: pool, site: s, door: door, mirrors: mirrored}, nil
+	socket := operator.New(s, pool)
+	socket.Measure()
+	return &server{line: l, store: pool, gateway: s, operator: socket, mirrors: mirrored}, nil
 }
 
 // openFiles takes up the large files of tenants. A server that follows another one may not know yet what its tenants have.
-func openFiles(pool *shards.Set, s *site.Site) (*lfs.Store, error) {
+func openFiles(pool *shards.Set, s *gateway.Gateway) (*lfs.Store, error) {
 	has := pool.Has
 	if pool.IsReplica() {
 		has = nil
@@ -198,8 +198,8 @@ func openFiles(pool *shards.Set, s *site.Site) (*lfs.Store, error) {
 	return lfs.Open(s.Folder, has, s.Log.Printf)
 }
 
-// packsOf keeps packs for clones of a site's tenants, but of those that the operator has blocked, and none while another server takes the pushes.
-func packsOf(s *site.Site) (*packcache.Cache, error) {
+// packsOf keeps packs for clones of a gateway's tenants, but of those that the operator has blocked, and none while another server takes the pushes.
+func packsOf(s *gateway.Gateway) (*packcache.Cache, error) {
 	return packcache.New(packcache.Config{Folder: filepath.Join(s.Work, "packs"), Tell: s.Log.Printf, Metrics: s.Metrics,
 		Most: func() int64 { return s.Limits.Get().PackCache },
 		MayGrow: func() error {
@@ -213,8 +213,8 @@ func packsOf(s *site.Site) (*packcache.Cache, error) {
 		}})
 }
 
-// readLists gives a site with what the lists of its folder say, and without its tenants.
-func readLists(folder string, bounds *limits.Limits, log *logs.Log, m *metrics.Metrics) (*site.Site, error) {
+// readLists gives a gateway with what the lists of its folder say, and without its tenants.
+func readLists(folder string, bounds *limits.Limits, log *logs.Log, m *metrics.Metrics) (*gateway.Gateway, error) {
 	who, err := access.Load(folder, log.Printf)
 	if err != nil {
 		return nil, err
@@ -233,8 +233,8 @@ func readLists(folder string, bounds *limits.Limits, log *logs.Log, m *metrics.M
 		return nil, err
 	}
 	views, err := quarantine.New(work, func() error { return bounds.MayGrow(work) })
-	return &site.Site{Access: who, Limits: bounds, Log: log, Metrics: m, Hooks: told, Protected: kept, Catalogue: said, Views: views, Version: version,
-		Folder: folder, Work: work, Markdown: markdown.HTML, Highlight: highlight.Lines}, err
+	return &gateway.Gateway{Access: who, Limits: bounds, Log: log, Metrics: m, Hooks: told, Protected: kept, Catalogue: said, Views: views,
+		Version: version, Folder: folder, Work: work, Markdown: markdown.HTML, Highlight: highlight.Lines}, err
 }
 
 // openShards takes the shards up where their journals are, or follows the server that writes these.
@@ -267,7 +267,7 @@ func (s *server) listen() (ways []way, err error) {
 	if err != nil {
 		return nil, err
 	}
-	ways = append(ways, way{"socket", opened, s.door.Serve})
+	ways = append(ways, way{"socket", opened, s.operator.Serve})
 	for _, open := range []func() (*way, error){s.http, s.redirect, s.ssh} {
 		it, err := open()
 		if err != nil {
@@ -297,15 +297,15 @@ func (s *server) http() (*way, error) {
 		return nil, err
 	}
 	name := "http"
-	listener = s.site.Limits.Listen(listener)
+	listener = s.gateway.Limits.Listen(listener)
 	if s.secured != nil {
 		s.httpsPort = listener.Addr().(*net.TCPAddr).Port
 		name, listener = "https", tls.NewListener(listener, s.secured.config)
-		s.site.URL = s.acmeURL()
+		s.gateway.URL = s.acmeURL()
 	} else if ip := listener.Addr().(*net.TCPAddr).IP; !ip.IsLoopback() {
-		s.site.Log.Printf("passwords travel unencrypted to %v: give --certificate, or put a front with TLS before it", listener.Addr())
+		s.gateway.Log.Printf("passwords travel unencrypted to %v: give --certificate, or put a front with TLS before it", listener.Addr())
 	}
-	return &way{name, listener, func(ctx context.Context, listener net.Listener) error { return httpd.Serve(ctx, listener, s.site) }}, nil
+	return &way{name, listener, func(ctx context.Context, listener net.Listener) error { return httpd.Serve(ctx, listener, s.gateway) }}, nil
 }
 
 func (s *server) ssh() (*way, error) {
@@ -321,15 +321,17 @@ func (s *server) ssh() (*way, error) {
 	if err != nil {
 		return nil, err
 	}
-	s.site.SSHPort = listener.Addr().(*net.TCPAddr).Port
-	return &way{"ssh", s.site.Limits.ListenIdle(listener),
-		func(ctx context.Context, listener net.Listener) error { return sshd.Serve(ctx, listener, s.site, keys) }}, nil
+	s.gateway.SSHPort = listener.Addr().(*net.TCPAddr).Port
+	return &way{"ssh", s.gateway.Limits.ListenIdle(listener),
+		func(ctx context.Context, listener net.Listener) error {
+			return sshd.Serve(ctx, listener, s.gateway, keys)
+		}}, nil
 }
 
 // hostKeys reads the keys of the ssh server. A folder of an older version has the first one alone.
 func (s *server) hostKeys() (keys []ssh.Signer, err error) {
 	for _, it := range hostKeys {
-		text, err := regular.Read(filepath.Join(s.line.folder(), it.file))
+		text, err := regular.Read(filepath.Join(s.line.folder, it.file))
 		if errors.Is(err, os.ErrNotExist) && len(keys) > 0 {
 			continue
 		}
@@ -346,58 +348,45 @@ func (s *server) hostKeys() (keys []ssh.Signer, err error) {
 }
 
 // serve serves all ways until the context is done. Where one of them fails, all end.
-func (s *server) serve(ctx context.Context, stop func(), ways []way) error {
+func (s *server) serve(ctx context.Context, ways []way) error {
 	defer s.keep()()
-	failed := make(chan error, len(ways))
-	var all sync.WaitGroup
+	group, ctx := errgroup.WithContext(ctx)
 	status := "serving"
 	for _, it := range ways {
-		s.site.Log.Printf("serving %s on %v", it.name, it.listener.Addr())
+		s.gateway.Log.Printf("serving %s on %v", it.name, it.listener.Addr())
 		status += fmt.Sprintf(" %s on %v", it.name, it.listener.Addr())
-		all.Add(1)
-		go func(it way) {
-			defer all.Done()
+		group.Go(func() error {
 			if err := it.serve(ctx, it.listener); err != nil && ctx.Err() == nil {
-				failed <- fmt.Errorf("%s: %w", it.name, err)
-				stop()
+				return fmt.Errorf("%s: %w", it.name, err)
 			}
-		}(it)
+			return nil
+		})
 	}
-	tellSystem(s.site.Log, notify.Ready, notify.Status(status))
-	all.Wait()
-	select {
-	case err := <-failed:
-		return err
-	default:
-		return nil
-	}
+	tellSystem(s.gateway.Log, notify.Ready, notify.Status(status))
+	return group.Wait()
 }
 
 // keep lets run what goes on beside requests, and gives the call that ends it.
 func (s *server) keep() (end func()) {
 	keeping, stop := context.WithCancel(context.Background())
 	go s.store.Keep(keeping, s.rhythm)
-	go s.site.Daily.Keep(keeping.Done())
-	go s.site.Catalogue.Keep(keeping.Done())
-	s.site.Hooks.Start()
-	var gits sync.WaitGroup
-	for _, keep := range []func(context.Context){s.mirrors.Keep, s.site.Packs.Keep} {
-		gits.Add(1)
-		go func(keep func(context.Context)) {
-			defer gits.Done()
-			keep(keeping)
-		}(keep)
+	go s.gateway.Daily.Keep(keeping.Done())
+	go s.gateway.Catalogue.Keep(keeping.Done())
+	s.gateway.Hooks.Start()
+	var gits errgroup.Group
+	for _, keep := range []func(context.Context){s.mirrors.Keep, s.gateway.Packs.Keep} {
+		gits.Go(func() error { keep(keeping); return nil })
 	}
 	if s.secured != nil && s.secured.begin != nil {
 		s.secured.begin(keeping)
 	}
 	return func() {
 		stop()
-		gits.Wait()
+		_ = gits.Wait()
 	}
 }
 
 func (s *server) rhythm() store.Rhythm {
-	values := s.site.Limits.Fresh()
+	values := s.gateway.Limits.Fresh()
 	return store.Rhythm{JournalBytes: values.JournalBytes, SaveEvery: values.SaveEvery, Step: values.Step}
 }

@@ -9,8 +9,8 @@ import (
 	"net/http"
 	"path/filepath"
 
+	"gitpoold/configfile"
 	"gitpoold/httpd"
-	"gitpoold/lists"
 )
 
 // tlsFlags are those of https.
@@ -41,7 +41,7 @@ func (s *server) secure() (*secured, error) {
 		return nil, err
 	}
 	it, err := httpd.Certify(httpd.Authority{Names: names, Email: flags["--acme-email"], Directory: flags["--acme-directory"],
-		Folder: filepath.Join(s.line.folder(), "certificates")}, s.site.Log.Printf)
+		Folder: filepath.Join(s.line.folder, "certificates")}, s.gateway.Log.Printf)
 	if err != nil {
 		return nil, err
 	}
@@ -69,7 +69,7 @@ func (s *server) certificate() (*secured, error) {
 	if file == "" || key == "" {
 		return nil, errors.New("--certificate and --certificate-key go together")
 	}
-	followed, err := lists.Follow(func() (tls.Certificate, error) { return tls.LoadX509KeyPair(file, key) }, s.site.Log.Printf, file, key)
+	followed, err := configfile.Follow(func() (tls.Certificate, error) { return tls.LoadX509KeyPair(file, key) }, s.gateway.Log.Printf, file, key)
 	if err != nil {
 		return nil, err
 	}
@@ -94,8 +94,8 @@ func (s *server) redirect() (*way, error) {
 		return nil, err
 	}
 	port, challenges := s.httpsPort, s.secured.challenges
-	return &way{"redirects to https", s.site.Limits.Listen(listener),
+	return &way{"redirects to https", s.gateway.Limits.Listen(listener),
 		func(ctx context.Context, listener net.Listener) error {
-			return httpd.Redirect(ctx, listener, s.site, port, challenges)
+			return httpd.Redirect(ctx, listener, s.gateway, port, challenges)
 		}}, nil
 }

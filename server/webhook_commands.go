@@ -15,7 +15,7 @@ var webhookCommand = command{"webhook", "DIR [secret ADDRESS | allow NETWORK | d
 
 // runWebhook lists the settings of addresses, or changes one, or shows what became of deliveries.
 func runWebhook(l line) error {
-	folder, words := l.folder(), append(l.words[1:len(l.words)-1:len(l.words)-1], "", "")
+	folder, words := l.folder, append(l.words, "", "")
 	switch words[0] {
 	case "":
 		return printLines(webhooks.Rows(folder))
@@ -44,5 +44,5 @@ func setSecret(l line, address string) error {
 	if err != nil {
 		return err
 	}
-	return change(l, "hooks", func() error { return webhooks.SetSecret(l.folder(), address, secret) })
+	return change(l, "hooks", func() error { return webhooks.SetSecret(l.folder, address, secret) })
 }

@@ -19,9 +19,9 @@ import (
 	"golang.org/x/crypto/bcrypt"
 	"golang.org/x/crypto/ssh"
 
-	"gitpoold/lists"
+	"gitpoold/configfile"
+	"gitpoold/fair"
 	"gitpoold/tenants"
-	"gitpoold/turns"
 )
 
 // Right is what a user may do with a tenant.
@@ -78,12 +78,12 @@ type rules struct {
 
 // Access answers who may do what. Its methods may be called by many goroutines at once.
 type Access struct {
-	rules    *lists.Followed[*rules]
+	rules    *configfile.Followed[*rules]
 	proofs   proofs
 	throttle throttle
 	met      met
 	// queues let tries out one by one, and places bounds how many of these are hashed at once.
-	queues, places *turns.Places
+	queues, places *fair.Semaphore
 	// Patience is how long a password waits for its turn.
 	Patience time.Duration
 	// nobody is the hash with which the password of a user that there is not is compared, so that it takes as long.
@@ -93,7 +93,7 @@ type Access struct {
 // Load reads the files of a folder. `tell` gets a line for the operator where they cannot be read later on.
 func Load(folder string, tell func(format string, values ...any)) (*Access, error) {
 	read := func() (*rules, error) { return readRules(folder) }
-	followed, err := lists.Follow(read, tell, filepath.Join(folder, "access"), filepath.Join(folder, "passwords"),
+	followed, err := configfile.Follow(read, tell, filepath.Join(folder, "access"), filepath.Join(folder, "passwords"),
 		filepath.Join(folder, "keys"), filepath.Join(folder, "groups"), filepath.Join(folder, "tokens"),
 		filepath.Join(folder, "blocked"))
 	if err != nil {
@@ -101,7 +101,7 @@ func Load(folder string, tell func(format string, values ...any)) (*Access, erro
 	}
 	nobody, err := hashOfNobody()
 	return &Access{rules: followed, proofs: newProofs(), throttle: newThrottle(), met: met{from: map[string]map[string]bool{}},
-		queues: turns.New(oneByOne), places: turns.New(hashes), Patience: patience, nobody: nobody}, err
+		queues: fair.New(oneByOne), places: fair.New(hashes), Patience: patience, nobody: nobody}, err
 }
 
 var nobody struct {
@@ -128,7 +128,7 @@ func readRules(folder string) (*rules, error) {
 		take func(words []string) error
 	}{{"access", r.takeGrant}, {"groups", r.takeMember}, {"tokens", r.takeToken}, {"passwords", r.takePassword}, {"keys", r.takeKey},
 		{"blocked", r.takeBlocked}} {
-		lines, err := lists.Read(filepath.Join(folder, file.name))
+		lines, err := configfile.Read(filepath.Join(folder, file.name))
 		if err != nil {
 			return nil, err
 		}

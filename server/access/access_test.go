@@ -275,7 +275,7 @@ func TestStrangersKeepNobodyWaiting(t *testing.T) {
 	for at := 0; at < 1000; at++ {
 		go func(at int) {
 			come.Add(1)
-			if leave, err := a.places.Enter(ctx, strangers, fmt.Sprint(at), "nobody"); err == nil {
+			if leave, err := a.places.Acquire(ctx, strangers, fmt.Sprint(at), "nobody"); err == nil {
 				<-goOn
 				time.Sleep(50 * time.Millisecond)
 				leave()

@@ -7,7 +7,7 @@ import (
 	"strings"
 	"time"
 
-	"gitpoold/lists"
+	"gitpoold/configfile"
 	"gitpoold/tenants"
 )
 
@@ -75,14 +75,14 @@ func Block(folder, what, name, why string) error {
 	if len(why) > longestReason || strings.IndexFunc(why, func(it rune) bool { return it < ' ' || it == 0x7f || it == 0xfffd }) >= 0 {
 		return fmt.Errorf("a reason is one line of at most %d bytes", longestReason)
 	}
-	return lists.Change(filepath.Join(folder, "blocked"), func(lines []string) ([]string, error) {
+	return configfile.Change(filepath.Join(folder, "blocked"), func(lines []string) ([]string, error) {
 		return append(without(lines, what, name), strings.TrimSpace(what+" "+name+" "+why)), nil
 	})
 }
 
 // Unblock takes a block back. It is an error if there is none.
 func Unblock(folder, what, name string) error {
-	return lists.Change(filepath.Join(folder, "blocked"), func(lines []string) ([]string, error) {
+	return configfile.Change(filepath.Join(folder, "blocked"), func(lines []string) ([]string, error) {
 		left := without(lines, what, name)
 		if len(left) == len(lines) {
 			return nil, errors.New(what + " " + name + " is not blocked")
@@ -92,10 +92,6 @@ func Unblock(folder, what, name string) error {
 }
 
 // Blocks gives the lines of a folder's blocks.
-func Blocks(folder string) (all []string, err error) {
-	lines, err := lists.Read(filepath.Join(folder, "blocked"))
-	for _, words := range lines {
-		all = append(all, strings.Join(words, " "))
-	}
-	return all, err
+func Blocks(folder string) ([]string, error) {
+	return configfile.Rows(filepath.Join(folder, "blocked"))
 }

@@ -9,7 +9,7 @@ import (
 	"golang.org/x/crypto/bcrypt"
 	"golang.org/x/crypto/ssh"
 
-	"gitpoold/lists"
+	"gitpoold/configfile"
 )
 
 // begins tells whether a line begins with these words.
@@ -48,7 +48,7 @@ func SetPassword(folder, user, password string) error {
 	if err != nil {
 		return err
 	}
-	return lists.Change(filepath.Join(folder, "passwords"), func(lines []string) ([]string, error) {
+	return configfile.Change(filepath.Join(folder, "passwords"), func(lines []string) ([]string, error) {
 		return append(without(lines, user), user+" "+string(hash)), nil
 	})
 }
@@ -71,7 +71,7 @@ func AddKeys(folder, user string, text []byte) (added int, err error) {
 	if err != nil {
 		return 0, err
 	}
-	return len(keys), lists.Change(filepath.Join(folder, "keys"), func(lines []string) ([]string, error) {
+	return len(keys), configfile.Change(filepath.Join(folder, "keys"), func(lines []string) ([]string, error) {
 		for _, key := range keys {
 			lines = withoutKey(lines, user, key)
 			for _, line := range lines {
@@ -104,7 +104,7 @@ func fingerprint(line string) string {
 
 // RemoveKey takes the key of a fingerprint from a user. It is an error if the user has no such key.
 func RemoveKey(folder, user, wanted string) error {
-	return lists.Change(filepath.Join(folder, "keys"), func(lines []string) (left []string, err error) {
+	return configfile.Change(filepath.Join(folder, "keys"), func(lines []string) (left []string, err error) {
 		for _, line := range lines {
 			if !begins(line, user) || fingerprint(strings.Join(strings.Fields(line)[1:], " ")) != wanted {
 				left = append(left, line)
@@ -153,7 +153,7 @@ func Grant(folder, user, pattern, right string) error {
 	if err := CheckGrant(user, pattern, right); err != nil {
 		return err
 	}
-	return lists.Change(filepath.Join(folder, "access"), func(lines []string) ([]string, error) {
+	return configfile.Change(filepath.Join(folder, "access"), func(lines []string) ([]string, error) {
 		return append(without(lines, user, pattern), user+" "+pattern+" "+right), nil
 	})
 }
@@ -161,7 +161,7 @@ func Grant(folder, user, pattern, right string) error {
 // IsKnown tells whether a user has a password or a key, a group has a member, or this is Everyone.
 func IsKnown(folder, user string) (bool, error) {
 	for _, file := range []string{"passwords", "keys", "groups"} {
-		lines, err := lists.Read(filepath.Join(folder, file))
+		lines, err := configfile.Read(filepath.Join(folder, file))
 		if err != nil {
 			return false, err
 		}
@@ -183,7 +183,7 @@ func Revoke(folder, user, pattern string) error {
 	}
 	taken := 0
 	for _, file := range files {
-		err := lists.Change(filepath.Join(folder, file), func(lines []string) ([]string, error) {
+		err := configfile.Change(filepath.Join(folder, file), func(lines []string) ([]string, error) {
 			left := without(lines, words...)
 			switch file {
 			case "groups":

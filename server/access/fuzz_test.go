@@ -3,13 +3,14 @@ package access
 import (
 	"os"
 	"path/filepath"
+	"slices"
 	"strings"
 	"testing"
 	"unicode"
 
 	"golang.org/x/crypto/ssh"
 
-	"gitpoold/lists"
+	"gitpoold/configfile"
 )
 
 // oneKey is a key in the form of a line, for seeds.
@@ -43,12 +44,7 @@ func FuzzFiles(f *testing.F) {
 }
 
 func hasWord(text, word string) bool {
-	for _, it := range strings.FieldsFunc(text, unicode.IsSpace) {
-		if it == word {
-			return true
-		}
-	}
-	return false
+	return slices.Contains(strings.FieldsFunc(text, unicode.IsSpace), word)
 }
 
 // changed lets commands change the files, and compares the rights of others before and after.
@@ -77,7 +73,7 @@ func changed(t *testing.T, folder string, before map[string]Right, tenant string
 // revokeAll takes what a user has, and is content where that is nothing.
 func revokeAll(folder, user string) error {
 	for _, name := range []string{"access", "passwords", "keys"} {
-		err := lists.Change(filepath.Join(folder, name), func(lines []string) ([]string, error) { return without(lines, user), nil })
+		err := configfile.Change(filepath.Join(folder, name), func(lines []string) ([]string, error) { return without(lines, user), nil })
 		if err != nil {
 			return err
 		}

@@ -6,7 +6,7 @@ import (
 	"path/filepath"
 	"strings"
 
-	"gitpoold/lists"
+	"gitpoold/configfile"
 )
 
 // groupMark is what the name of a group begins with, and that of no user.
@@ -64,7 +64,7 @@ func AddMember(folder, group, member string) error {
 	if !isGroup(member) && !ValidUser(member) {
 		return errUser(member)
 	}
-	return lists.Change(filepath.Join(folder, "groups"), func(lines []string) ([]string, error) {
+	return configfile.Change(filepath.Join(folder, "groups"), func(lines []string) ([]string, error) {
 		groups := map[string][]string{}
 		for _, line := range lines {
 			if words := strings.Fields(line); len(words) == 2 {
@@ -82,7 +82,7 @@ func AddMember(folder, group, member string) error {
 
 // RemoveMember takes a member out of a group. It is an error if it is not there.
 func RemoveMember(folder, group, member string) error {
-	return lists.Change(filepath.Join(folder, "groups"), func(lines []string) ([]string, error) {
+	return configfile.Change(filepath.Join(folder, "groups"), func(lines []string) ([]string, error) {
 		left := without(lines, group, member)
 		if len(left) == len(lines) {
 			return nil, errors.New(member + " is not in " + group)
@@ -92,12 +92,8 @@ func RemoveMember(folder, group, member string) error {
 }
 
 // Members gives the lines of a folder's groups.
-func Members(folder string) (all []string, err error) {
-	lines, err := lists.Read(filepath.Join(folder, "groups"))
-	for _, words := range lines {
-		all = append(all, strings.Join(words, " "))
-	}
-	return all, err
+func Members(folder string) ([]string, error) {
+	return configfile.Rows(filepath.Join(folder, "groups"))
 }
 
 // outOfGroups gives the lines of groups without those of a group of this name, or in which the name is a member.

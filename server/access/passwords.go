@@ -13,21 +13,21 @@ import (
 
 	"golang.org/x/crypto/bcrypt"
 
-	"gitpoold/turns"
+	"gitpoold/fair"
 )
 
 // The kinds of those who wait for a hash: users who call from where they were let in before, and all others.
 const (
-	acquainted = turns.First
-	strangers  = turns.Second
+	acquainted = fair.First
+	strangers  = fair.Second
 )
 
 // oneByOne lets one try at a time out of each queue, however many queues there are.
-var oneByOne = turns.Limits{Places: math.MaxInt32, OfKind: [2]int{math.MaxInt32, math.MaxInt32}, OfOneOfIt: [2]int{1, 1}}
+var oneByOne = fair.Limits{Places: math.MaxInt32, OfKind: [2]int{math.MaxInt32, math.MaxInt32}, OfOneOfIt: [2]int{1, 1}}
 
 // hashes bounds how many passwords are hashed at once, so that tries take no more than two processors. A hash takes little time, so those of one kind
 // may have both places while nobody of the other waits.
-var hashes = turns.Limits{Places: 2, OfKind: [2]int{2, 2}, OfOneOfIt: [2]int{1, 1}}
+var hashes = fair.Limits{Places: 2, OfKind: [2]int{2, 2}, OfOneOfIt: [2]int{1, 1}}
 
 const (
 	// patience is how long a password waits for its turn.
@@ -65,12 +65,12 @@ func (a *Access) Password(ctx context.Context, user, password, address string) e
 	ctx, stop := context.WithTimeout(ctx, a.Patience)
 	defer stop()
 	queue := a.queueOf(user, from)
-	done, err := a.queues.Enter(ctx, strangers, queue, user)
+	done, err := a.queues.Acquire(ctx, strangers, queue, user)
 	if err != nil {
 		return ErrBusy
 	}
 	err = a.judge(ctx, user, password, from)
-	if err == ErrWrong {
+	if errors.Is(err, ErrWrong) {
 		// The next one of this queue has its turn after a while, whoever it is by then.
 		time.AfterFunc(a.throttle.note(queue, "for "+user), done)
 	} else {
@@ -111,9 +111,9 @@ func (a *Access) judge(ctx context.Context, user, password, from string) error {
 // enter waits for a place to hash. Networks take turns, and the users of one among themselves; users who were let in from there before take turns apart.
 func (a *Access) enter(ctx context.Context, user, from string) (leave func(), err error) {
 	if a.met.has(user, from) {
-		return a.places.Enter(ctx, acquainted, user, from)
+		return a.places.Acquire(ctx, acquainted, user, from)
 	}
-	return a.places.Enter(ctx, strangers, from, user)
+	return a.places.Acquire(ctx, strangers, from, user)
 }
 
 // met remembers from where users were let in.
@@ -222,10 +222,7 @@ func newThrottle() throttle { return throttle{counts: map[string]tries{}} }
 // left gives a count as it is now.
 func (t tries) left(now time.Time) int {
 	count := t.count - int(now.Sub(t.last)/forgetAfter)
-	if count < 0 {
-		return 0
-	}
-	return count
+	return max(0, count)
 }
 
 // waitOf is how long a try waits after so many wrong ones.
@@ -237,10 +234,7 @@ func waitOf(count int, longest time.Duration) time.Duration {
 	for ; count > freeTries && wait < longest; count-- {
 		wait *= 2
 	}
-	if wait > longest {
-		return longest
-	}
-	return wait
+	return min(longest, wait)
 }
 
 // wait waits as long as the tries for a user before ask for, and tells whether the context lasted.

@@ -13,7 +13,7 @@ import (
 
 	"golang.org/x/crypto/bcrypt"
 
-	"gitpoold/lists"
+	"gitpoold/configfile"
 )
 
 // tokenMark parts the name of a token from that of its user, as in alice~3f9a2c71. No user has it in a name, so the name of a token is a login of its
@@ -127,7 +127,7 @@ func AddToken(folder, login, secret, pattern, right string, until time.Time) err
 		return err
 	}
 	line := strings.Join([]string{login, string(hash), until.Format(time.RFC3339), right, pattern}, " ")
-	return lists.Change(filepath.Join(folder, "tokens"), func(lines []string) ([]string, error) { return append(lines, line), nil })
+	return configfile.Change(filepath.Join(folder, "tokens"), func(lines []string) ([]string, error) { return append(lines, line), nil })
 }
 
 // checkLogin asks that a user may have this name, or that there is a token of it.
@@ -135,7 +135,7 @@ func checkLogin(folder, login string) error {
 	if ValidUser(login) {
 		return nil
 	}
-	lines, err := lists.Read(filepath.Join(folder, "tokens"))
+	lines, err := configfile.Read(filepath.Join(folder, "tokens"))
 	for _, words := range lines {
 		if words[0] == login {
 			return nil
@@ -152,11 +152,11 @@ func RemoveToken(folder, login string) error {
 	if login == Person(login) {
 		return fmt.Errorf("%q is no name of a token", login)
 	}
-	err := lists.Change(filepath.Join(folder, "keys"), func(lines []string) ([]string, error) { return without(lines, login), nil })
+	err := configfile.Change(filepath.Join(folder, "keys"), func(lines []string) ([]string, error) { return without(lines, login), nil })
 	if err != nil {
 		return err
 	}
-	return lists.Change(filepath.Join(folder, "tokens"), func(lines []string) ([]string, error) {
+	return configfile.Change(filepath.Join(folder, "tokens"), func(lines []string) ([]string, error) {
 		left := without(lines, login)
 		if len(left) == len(lines) {
 			return nil, fmt.Errorf("there is no token %s", login)
@@ -167,7 +167,7 @@ func RemoveToken(folder, login string) error {
 
 // Tokens gives a line for each token of a folder: `TOKEN RIGHT PATTERN until TIME`.
 func Tokens(folder string) (all []string, err error) {
-	lines, err := lists.Read(filepath.Join(folder, "tokens"))
+	lines, err := configfile.Read(filepath.Join(folder, "tokens"))
 	for _, words := range lines {
 		if len(words) == 5 {
 			all = append(all, strings.Join([]string{words[0], words[3], words[4], "until", words[2]}, " "))

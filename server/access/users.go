@@ -5,7 +5,7 @@ import (
 	"sort"
 	"strings"
 
-	"gitpoold/lists"
+	"gitpoold/configfile"
 )
 
 // Users gives what each user has, a line each, the lines of a user together: `USER password`, `USER key TYPE FINGERPRINT`, `USER grant PATTERN
@@ -15,7 +15,7 @@ func Users(folder string) (all []string, err error) {
 		name string
 		line func(words []string) string
 	}{{"passwords", passwordOf}, {"keys", keyOf}, {"access", grantOf}, {"groups", memberOf}, {"tokens", tokenOf}, {"blocked", blockOf}} {
-		lines, err := lists.Read(filepath.Join(folder, file.name))
+		lines, err := configfile.Read(filepath.Join(folder, file.name))
 		if err != nil {
 			return nil, err
 		}

@@ -14,9 +14,9 @@ import (
 
 	"gitpoold/access"
 	"gitpoold/audit"
+	"gitpoold/fair"
+	"gitpoold/gateway"
 	"gitpoold/logs"
-	"gitpoold/site"
-	"gitpoold/turns"
 )
 
 const (
@@ -40,7 +40,7 @@ var (
 
 // User is somebody who is let in.
 type User struct {
-	Site           *site.Site
+	Gateway        *gateway.Gateway
 	Login, Address string
 }
 
@@ -48,7 +48,7 @@ type User struct {
 // `token TOKEN RIGHT PATTERN until TIME`. A token is shown its own line, and what its user may do.
 func (u User) Show() ([]string, error) {
 	lines := []string{"user " + access.Person(u.Login)}
-	for _, it := range u.Site.Access.Grants(u.Login) {
+	for _, it := range u.Gateway.Access.Grants(u.Login) {
 		lines = append(lines, "grant "+it)
 	}
 	has, err := u.has()
@@ -62,10 +62,10 @@ func (u User) Show() ([]string, error) {
 
 // has gives the lines of what the login has, without its name.
 func (u User) has() (lines []string, err error) {
-	if u.Site.Folder == "" {
+	if u.Gateway.Folder == "" {
 		return nil, ErrFolder
 	}
-	all, err := access.Users(u.Site.Folder)
+	all, err := access.Users(u.Gateway.Folder)
 	front := access.Person(u.Login) + " "
 	if access.IsToken(u.Login) {
 		front += "token " + u.Login + " "
@@ -103,7 +103,7 @@ func (u User) AddKeys(ctx context.Context, text []byte) (added []string, err err
 		if err := u.hasRoom(u.Keys, len(added)); err != nil {
 			return err
 		}
-		_, err := access.AddKeys(u.Site.Folder, u.Login, text)
+		_, err := access.AddKeys(u.Gateway.Folder, u.Login, text)
 		if errors.As(err, new(*access.KeyTaken)) {
 			err = ErrTaken
 		}
@@ -123,12 +123,12 @@ func (u User) hasRoom(list func() ([]string, error), more int) error {
 
 // RemoveKey takes a key away.
 func (u User) RemoveKey(ctx context.Context, fingerprint string) error {
-	return u.change(ctx, "keys remove "+fingerprint, func() error { return access.RemoveKey(u.Site.Folder, u.Login, fingerprint) })
+	return u.change(ctx, "keys remove "+fingerprint, func() error { return access.RemoveKey(u.Gateway.Folder, u.Login, fingerprint) })
 }
 
 // SetPassword gives the user another password.
 func (u User) SetPassword(ctx context.Context, password string) error {
-	return u.change(ctx, "password", func() error { return access.SetPassword(u.Site.Folder, u.Login, password) })
+	return u.change(ctx, "password", func() error { return access.SetPassword(u.Gateway.Folder, u.Login, password) })
 }
 
 // NewToken makes an access token, and gives its name and its secret, which is not to be had again.
@@ -148,7 +148,7 @@ func (u User) NewToken(ctx context.Context, pattern, right, end string) (login, 
 		if err := u.hasRoom(u.Tokens, 1); err != nil {
 			return err
 		}
-		return access.AddToken(u.Site.Folder, login, secret, pattern, right, until)
+		return access.AddToken(u.Gateway.Folder, login, secret, pattern, right, until)
 	})
 	if err != nil {
 		return "", "", err
@@ -168,11 +168,11 @@ func (u User) RemoveToken(ctx context.Context, token string) error {
 	if !access.IsToken(token) || access.Person(token) != u.Login {
 		return u.orToken(fmt.Errorf("there is no token %q of yours", token))
 	}
-	return u.change(ctx, "token remove "+token, func() error { return access.RemoveToken(u.Site.Folder, token) })
+	return u.change(ctx, "token remove "+token, func() error { return access.RemoveToken(u.Gateway.Folder, token) })
 }
 
 // atOnce lets one change of a user be at work at a time, and of all users two: a change hashes and writes.
-var atOnce = turns.New(turns.Limits{Places: 2, OfKind: [2]int{2, 2}, OfOneOfIt: [2]int{1, 1}})
+var atOnce = fair.New(fair.Limits{Places: 2, OfKind: [2]int{2, 2}, OfOneOfIt: [2]int{1, 1}})
 
 // patience is how long a change waits for its turn.
 const patience = 10 * time.Second
@@ -184,7 +184,7 @@ func (u User) change(ctx context.Context, what string, do func() error) error {
 	}
 	ctx, stop := context.WithTimeout(ctx, patience)
 	defer stop()
-	leave, err := atOnce.Enter(ctx, turns.First, u.Login)
+	leave, err := atOnce.Acquire(ctx, fair.First, u.Login)
 	if err != nil {
 		return ErrBusy
 	}
@@ -193,15 +193,15 @@ func (u User) change(ctx context.Context, what string, do func() error) error {
 		return ErrOften
 	}
 	line := logs.Account{Address: u.Address, Login: u.Login, What: what}
-	if err := audit.NoteAccount(u.Site.Folder, line); err != nil {
-		u.Site.Log.Printf("the audit cannot be written: %v", err)
+	if err := audit.NoteAccount(u.Gateway.Folder, line); err != nil {
+		u.Gateway.Log.Printf("the audit cannot be written: %v", err)
 		return errors.New("the audit cannot be written, so nothing is changed")
 	}
 	line.Err = do()
-	u.Site.Log.Account(line)
+	u.Gateway.Log.Account(line)
 	if line.Err != nil {
-		if err := audit.NoteAccount(u.Site.Folder, line); err != nil {
-			u.Site.Log.Printf("the audit cannot be written: %v", err)
+		if err := audit.NoteAccount(u.Gateway.Folder, line); err != nil {
+			u.Gateway.Log.Printf("the audit cannot be written: %v", err)
 		}
 	}
 	return line.Err
@@ -210,18 +210,18 @@ func (u User) change(ctx context.Context, what string, do func() error) error {
 // mayChange refuses a token, a user who is blocked, and everybody where another server has the lists.
 func (u User) mayChange() error {
 	switch {
-	case u.Site.Folder == "":
+	case u.Gateway.Folder == "":
 		return ErrFolder
 	case access.IsToken(u.Login):
 		return ErrToken
 	case !access.ValidUser(u.Login):
 		return access.ErrWrong
 	}
-	if err := u.Site.Access.Blocked(u.Login, "", access.Read); err != nil {
+	if err := u.Gateway.Access.Blocked(u.Login, "", access.Read); err != nil {
 		return err
 	}
-	if u.Site.Elsewhere != nil {
-		return u.Site.Elsewhere()
+	if u.Gateway.Elsewhere != nil {
+		return u.Gateway.Elsewhere()
 	}
 	return nil
 }

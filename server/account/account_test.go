@@ -14,10 +14,10 @@ import (
 	"time"
 
 	"gitpoold/access"
-	"gitpoold/lists"
+	"gitpoold/configfile"
+	"gitpoold/gateway"
 	"gitpoold/logs"
 	"gitpoold/metrics"
-	"gitpoold/site"
 )
 
 var background = context.Background()
@@ -40,12 +40,12 @@ func user(t *testing.T, login string) User {
 	who, err := access.Load(folder, t.Logf)
 	must(t, err)
 	often = &counts{}
-	return User{Site: &site.Site{Access: who, Folder: folder, Log: logs.New(io.Discard, metrics.New())}, Login: login, Address: "192.0.2.1"}
+	return User{Gateway: &gateway.Gateway{Access: who, Folder: folder, Log: logs.New(io.Discard, metrics.New())}, Login: login, Address: "192.0.2.1"}
 }
 
 func audited(t *testing.T, u User) string {
 	t.Helper()
-	text, err := os.ReadFile(filepath.Join(u.Site.Folder, "audit"))
+	text, err := os.ReadFile(filepath.Join(u.Gateway.Folder, "audit"))
 	if err != nil && !errors.Is(err, os.ErrNotExist) {
 		t.Fatal(err)
 	}
@@ -71,15 +71,16 @@ func TestCommands(t *testing.T) {
 	if _, err := carried(u, "keys remove "+added, ""); err != nil {
 		t.Fatal(err)
 	}
-	if _, err := carried(u, "password", "another land\r\nmore"); err != nil || u.Site.Access.Password(background, "alice", "another land", "") != nil {
+	if _, err := carried(u, "password", "another land\r\nmore"); err != nil ||
+		u.Gateway.Access.Password(background, "alice", "another land", "") != nil {
 		t.Fatal(err)
 	}
 	made, err := carried(u, "token create acme/site r 1h", "")
 	words := strings.Fields(made)
-	if err != nil || len(words) != 2 || u.Site.Access.Password(background, words[0], words[1], "") != nil {
+	if err != nil || len(words) != 2 || u.Gateway.Access.Password(background, words[0], words[1], "") != nil {
 		t.Fatal(made, err)
 	}
-	if _, err := carried(u, "token remove "+words[0], ""); err != nil || u.Site.Access.Hash(words[0]) != "" {
+	if _, err := carried(u, "token remove "+words[0], ""); err != nil || u.Gateway.Access.Hash(words[0]) != "" {
 		t.Fatal(err)
 	}
 	if strings.Count(audited(t, u), " account address=192.0.2.1 login=alice what=") != 5 || strings.Contains(audited(t, u), words[1]) {
@@ -103,12 +104,12 @@ func TestWhoMayChangeNothing(t *testing.T) {
 		is    error
 	}{
 		"a token":       {"alice~1", func(*User) {}, ErrToken},
-		"a replica":     {"alice", func(u *User) { u.Site.Elsewhere = func() error { return elsewhere } }, elsewhere},
-		"without files": {"alice", func(u *User) { u.Site.Folder = "" }, ErrFolder},
+		"a replica":     {"alice", func(u *User) { u.Gateway.Elsewhere = func() error { return elsewhere } }, elsewhere},
+		"without files": {"alice", func(u *User) { u.Gateway.Folder = "" }, ErrFolder},
 		"a visitor":     {"", func(*User) {}, access.ErrWrong},
 	} {
 		u := user(t, it.login)
-		folder := u.Site.Folder
+		folder := u.Gateway.Folder
 		before, err := access.Users(folder)
 		must(t, err)
 		it.spoil(&u)
@@ -120,13 +121,13 @@ func TestWhoMayChangeNothing(t *testing.T) {
 		if after, _ := access.Users(folder); fmt.Sprint(after) != fmt.Sprint(before) {
 			t.Errorf("%s changes %v", name, after)
 		}
-		u.Site.Folder = folder
+		u.Gateway.Folder = folder
 		if audited(t, u) != "" {
 			t.Error(audited(t, u))
 		}
 	}
 	u := user(t, "alice")
-	must(t, access.Block(u.Site.Folder, access.User, "alice", "unpaid"))
+	must(t, access.Block(u.Gateway.Folder, access.User, "alice", "unpaid"))
 	if _, err := carried(u, "password", "another land"); !errors.As(err, new(*access.Blocked)) {
 		t.Error(err)
 	}
@@ -157,7 +158,7 @@ func TestTokensOfAUserAreBounded(t *testing.T) {
 	for at := 0; at < mostOfEach-3; at++ {
 		rows = append(rows, fmt.Sprintf("alice~%d hash %s r acme/*", at, time.Now().Add(time.Hour).UTC().Format(time.RFC3339)))
 	}
-	must(t, lists.Write(filepath.Join(u.Site.Folder, "tokens"), rows))
+	must(t, configfile.Write(filepath.Join(u.Gateway.Folder, "tokens"), rows))
 	var all sync.WaitGroup
 	for at := 0; at < 8; at++ {
 		all.Add(1)
@@ -183,11 +184,11 @@ func TestTokensOfAUserAreBounded(t *testing.T) {
 // TestWithoutAnAuditNothingChanges has an audit that cannot be written.
 func TestWithoutAnAuditNothingChanges(t *testing.T) {
 	u := user(t, "alice")
-	must(t, os.Mkdir(filepath.Join(u.Site.Folder, "audit"), 0o700))
+	must(t, os.Mkdir(filepath.Join(u.Gateway.Folder, "audit"), 0o700))
 	if err := u.SetPassword(background, "another land"); err == nil || !strings.Contains(err.Error(), "nothing is changed") {
 		t.Fatal(err)
 	}
-	if u.Site.Access.Password(background, "alice", "wonderland", "") != nil {
+	if u.Gateway.Access.Password(background, "alice", "wonderland", "") != nil {
 		t.Fatal("the password is changed")
 	}
 }

@@ -121,7 +121,7 @@ func makeNext(source, to string, all []entry) error {
 		}
 		it.digest = digest
 	}
-	if err := write(filepath.Join(next, listName), format(all)); err != nil {
+	if err := regular.Create(filepath.Join(next, listName), format(all), next, 0o600); err != nil {
 		return err
 	}
 	return regular.SyncFolders(next)

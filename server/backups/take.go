@@ -8,15 +8,15 @@ import (
 	"os"
 	"path/filepath"
 
+	"gitpoold/configfile"
 	"gitpoold/lfs"
-	"gitpoold/lists"
 	"gitpoold/regular"
 )
 
 // Take gives what a server's folder has now second names in another folder on the same file system. Nothing may change in the pools and journals
 // meanwhile. Pool files and segments are the same files afterwards, of which a segment may grow; all others are copies.
 func Take(folder, into string) error {
-	unlock, err := lists.Lock(folder)
+	unlock, err := configfile.Lock(folder)
 	if err != nil {
 		return err
 	}
@@ -30,7 +30,7 @@ func Take(folder, into string) error {
 			return err
 		}
 	}
-	return write(filepath.Join(into, listName), format(all))
+	return regular.Create(filepath.Join(into, listName), format(all), into, 0o600)
 }
 
 func (e entry) take(folder, into string) error {
@@ -81,20 +81,4 @@ func (e entry) copy(from, to string, lasts bool) (digest string, err error) {
 		err = os.Chtimes(to, info.ModTime(), info.ModTime())
 	}
 	return fmt.Sprintf("%x", sum.Sum(nil)), err
-}
-
-// write makes a file and syncs it.
-func write(path, text string) error {
-	file, err := os.OpenFile(path, os.O_WRONLY|os.O_CREATE|os.O_EXCL, 0o600)
-	if err != nil {
-		return err
-	}
-	_, err = file.WriteString(text)
-	if err == nil {
-		err = file.Sync()
-	}
-	if closing := file.Close(); err == nil {
-		err = closing
-	}
-	return err
 }

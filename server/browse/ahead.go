@@ -4,25 +4,25 @@ import (
 	"context"
 	"sort"
 
-	"gitpoold/tenants"
+	"gitpoold/plumbing"
 	"gitpoold/walk"
 )
 
 // Divergence is what a commit has beside another one.
 type Divergence struct {
 	// Ahead are the commits that the other has not, from new to old.
-	Ahead []tenants.Name
+	Ahead []plumbing.Name
 	// Base is the merge base of both, or zeros where they have no commit in common.
-	Base tenants.Name
+	Base plumbing.Name
 }
 
 // mostBases is how many commits are tried as a merge base.
 const mostBases = 16
 
 // Diverged compares the histories of two commits. It is ErrTooMuch where it would hold more than so many bytes of commits.
-func Diverged(ctx context.Context, s Source, of, from tenants.Name, bytes int64) (d Divergence, err error) {
-	ctx = tenants.Counted(ctx, &held{bytes})
-	ahead, edges, err := walk.NewHistory(s).Paint(ctx, []tenants.Name{of}, []tenants.Name{from})
+func Diverged(ctx context.Context, s Source, of, from plumbing.Name, bytes int64) (d Divergence, err error) {
+	ctx = plumbing.Counted(ctx, &held{bytes})
+	ahead, edges, err := walk.NewHistory(s).Paint(ctx, []plumbing.Name{of}, []plumbing.Name{from})
 	if err != nil {
 		return d, err
 	}
@@ -34,9 +34,9 @@ func Diverged(ctx context.Context, s Source, of, from tenants.Name, bytes int64)
 }
 
 // best gives the newest of some commits that none of the others reaches.
-func best(ctx context.Context, s Source, edges []tenants.Name) (found tenants.Name, err error) {
+func best(ctx context.Context, s Source, edges []plumbing.Name) (found plumbing.Name, err error) {
 	var commits []*Commit
-	err = s.Objects(ctx, edges, func(o tenants.Object) error {
+	err = s.Objects(ctx, edges, func(o plumbing.Object) error {
 		c, err := ReadCommit(o)
 		commits = append(commits, c)
 		return err
@@ -49,7 +49,7 @@ func best(ctx context.Context, s Source, edges []tenants.Name) (found tenants.Na
 		if at == mostBases {
 			break
 		}
-		var others []tenants.Name
+		var others []plumbing.Name
 		for _, it := range edges {
 			if it != c.Name {
 				others = append(others, it)
@@ -58,7 +58,7 @@ func best(ctx context.Context, s Source, edges []tenants.Name) (found tenants.Na
 		if len(others) == 0 {
 			return c.Name, nil
 		}
-		unreached, err := s.Missing(ctx, []tenants.Name{c.Name}, others)
+		unreached, err := s.Missing(ctx, []plumbing.Name{c.Name}, others)
 		if err != nil || unreached.Len() > 0 {
 			return c.Name, err
 		}

@@ -14,7 +14,7 @@ import (
 	"github.com/klauspost/compress/flate"
 	"github.com/klauspost/compress/gzip"
 
-	"gitpoold/tenants"
+	"gitpoold/plumbing"
 )
 
 // ErrTooMuch says that something is larger than this server reads or writes at once.
@@ -68,7 +68,7 @@ type packer interface {
 
 // Write writes the archive of a tree. It holds a few megabytes at once, or one object where that is larger. An error leaves the
 // archive cut off.
-func (a Archive) Write(ctx context.Context, s Source, to io.Writer, tree tenants.Name) error {
+func (a Archive) Write(ctx context.Context, s Source, to io.Writer, tree plumbing.Name) error {
 	packers := map[Format]func(Archive, io.Writer) (packer, error){Tar: Archive.tar, TarGz: Archive.tarGz, Zip: Archive.zip}
 	packing, err := packers[a.Format](a, to)
 	if err != nil {
@@ -90,7 +90,7 @@ type archiver struct {
 }
 
 // folder writes a directory: its own line, its files, and the directories in it.
-func (w *archiver) folder(ctx context.Context, path string, tree tenants.Name) error {
+func (w *archiver) folder(ctx context.Context, path string, tree plumbing.Name) error {
 	o, err := Object(ctx, w.source, tree)
 	if err != nil {
 		return err
@@ -121,7 +121,7 @@ func (w *archiver) folder(ctx context.Context, path string, tree tenants.Name) e
 }
 
 // inside leaves out the entries that would lead out of their directory, or through one another.
-func (w *archiver) inside(entries []Entry) (left []Entry) {
+func (w *archiver) inside(entries []plumbing.Entry) (left []plumbing.Entry) {
 	bad := "/"
 	if w.Format == Zip {
 		bad = `/\`
@@ -136,22 +136,22 @@ func (w *archiver) inside(entries []Entry) (left []Entry) {
 	return left
 }
 
-func (w *archiver) blobs(ctx context.Context, path string, entries []Entry) error {
-	var blobs []Entry
-	var names []tenants.Name
+func (w *archiver) blobs(ctx context.Context, path string, entries []plumbing.Entry) error {
+	var blobs []plumbing.Entry
+	var names []plumbing.Name
 	for _, it := range entries {
 		if it.IsBlob() {
 			blobs, names = append(blobs, it), append(names, it.Name)
 		}
 	}
 	at := 0
-	return w.source.Objects(ctx, names, func(o tenants.Object) error {
+	return w.source.Objects(ctx, names, func(o plumbing.Object) error {
 		at++
 		return w.file(path, blobs[at-1], o.Contents)
 	})
 }
 
-func (w *archiver) file(path string, it Entry, contents []byte) error {
+func (w *archiver) file(path string, it plumbing.Entry, contents []byte) error {
 	mode := fs.FileMode(0o664)
 	switch {
 	case it.IsLink() && len(contents) > 0 && bytes.IndexByte(contents, 0) < 0:

@@ -5,7 +5,7 @@ import (
 	"sort"
 
 	"gitpoold/linediff"
-	"gitpoold/tenants"
+	"gitpoold/plumbing"
 )
 
 // Blamed says which commit brought a line: Commit is nil where the walk came to its bounds before it came to that commit. Path is that of the
@@ -22,7 +22,7 @@ const mostBlamed = 4 << 20
 // Blame tells of each line of a file which commit brought it, as git-blame(1) does. Lines of a file that was renamed without a change are
 // followed. A bound that it comes to leaves commits out, and is no error.
 func Blame(ctx context.Context, s Source, of *Commit, path string, b Bounds) ([]Blamed, error) {
-	w := &blame{past: newPast(s, b, path), suspects: map[tenants.Name][]*suspect{}}
+	w := &blame{past: newPast(s, b, path), suspects: map[plumbing.Name][]*suspect{}}
 	w.texts = versions[[]string]{past: w.past, make: linesOf}
 	it, err := w.at(ctx, of, path)
 	if err != nil {
@@ -48,19 +48,19 @@ type span struct{ at, last, count int }
 // suspect is a file of a commit, with lines that it or an older commit brought.
 type suspect struct {
 	path  string
-	file  Entry
+	file  plumbing.Entry
 	spans []span
 }
 
 type blame struct {
 	*past
 	found    []Blamed
-	suspects map[tenants.Name][]*suspect // of commits that wait
+	suspects map[plumbing.Name][]*suspect // of commits that wait
 	texts    versions[[]string]
 }
 
 // suspect lets lines wait for a commit.
-func (w *blame) suspect(c *Commit, path string, file Entry, spans []span) {
+func (w *blame) suspect(c *Commit, path string, file plumbing.Entry, spans []span) {
 	w.push(c)
 	for _, it := range w.suspects[c.Name] {
 		if it.path == path {
@@ -95,7 +95,7 @@ func (w *blame) step(ctx context.Context, c *Commit) error {
 
 // pass passes lines of a file to the parents: all to one that has the same file.
 func (w *blame) pass(ctx context.Context, c *Commit, it *suspect, parents []*Commit) error {
-	origins := make([]Entry, len(parents)) // with their whole paths
+	origins := make([]plumbing.Entry, len(parents)) // with their whole paths
 	for at, parent := range parents {
 		found, err := w.origin(ctx, c, parent, it)
 		if err != nil {
@@ -124,7 +124,7 @@ func (w *blame) pass(ctx context.Context, c *Commit, it *suspect, parents []*Com
 }
 
 // origin gives the file that a parent has at the path, or that the commit has renamed to it.
-func (w *blame) origin(ctx context.Context, c, parent *Commit, it *suspect) (Entry, error) {
+func (w *blame) origin(ctx context.Context, c, parent *Commit, it *suspect) (plumbing.Entry, error) {
 	found, err := w.at(ctx, parent, it.path)
 	if found.Path = it.path; err != nil || !found.Name.IsZero() {
 		return found, err
@@ -135,11 +135,11 @@ func (w *blame) origin(ctx context.Context, c, parent *Commit, it *suspect) (Ent
 			return change.Old, err
 		}
 	}
-	return Entry{}, err
+	return plumbing.Entry{}, err
 }
 
 // compared parts lines of a file into those that an older version has too, at their places there, and the others.
-func (w *blame) compared(ctx context.Context, it *suspect, older Entry) (kept, left []span, err error) {
+func (w *blame) compared(ctx context.Context, it *suspect, older plumbing.Entry) (kept, left []span, err error) {
 	old, err := w.lines(ctx, older)
 	if err != nil {
 		return nil, nil, err
@@ -176,23 +176,21 @@ func part(spans []span, changes []linediff.Change) (kept, left []span) {
 
 // cut takes so many lines from the front of a span, as they stand in another text.
 func (s *span) cut(count, moved int) span {
-	if count > s.count {
-		count = s.count
-	}
+	count = min(count, s.count)
 	front := span{s.at + moved, s.last, count}
 	s.at, s.last, s.count = s.at+count, s.last+count, s.count-count
 	return front
 }
 
 // lines gives the lines of a file; one that is large has none.
-func (w *blame) lines(ctx context.Context, it Entry) ([]string, error) {
+func (w *blame) lines(ctx context.Context, it plumbing.Entry) ([]string, error) {
 	if !it.IsBlob() {
 		return nil, nil
 	}
 	return w.texts.of(ctx, it)
 }
 
-func linesOf(o tenants.Object) ([]string, error) {
+func linesOf(o plumbing.Object) ([]string, error) {
 	if len(o.Contents) > mostBlamed {
 		return nil, nil
 	}

@@ -5,7 +5,7 @@ import (
 	"errors"
 	"time"
 
-	"gitpoold/tenants"
+	"gitpoold/plumbing"
 )
 
 // Bounds are the most that one walk reads: objects, their bytes, and for how long it goes on.
@@ -33,11 +33,11 @@ func (m *metered) isSpent() bool {
 }
 
 // Objects is that of the source.
-func (m *metered) Objects(ctx context.Context, names []tenants.Name, use func(tenants.Object) error) error {
+func (m *metered) Objects(ctx context.Context, names []plumbing.Name, use func(plumbing.Object) error) error {
 	if len(names) == 0 {
 		return nil
 	}
-	return m.Source.Objects(ctx, names, func(o tenants.Object) error {
+	return m.Source.Objects(ctx, names, func(o plumbing.Object) error {
 		m.left.Objects--
 		m.left.Bytes -= int64(len(o.Contents))
 		return use(o)

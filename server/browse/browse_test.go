@@ -12,33 +12,33 @@ import (
 	"testing"
 	"time"
 
-	"gitpoold/objects"
+	"gitpoold/faults"
 	"gitpoold/pack"
-	"gitpoold/tenants"
+	"gitpoold/plumbing"
 	"gitpoold/walk"
 )
 
 // memory has objects, and counts how many were read.
 type memory struct {
 	walk.Source
-	objects map[tenants.Name]tenants.Object
+	objects map[plumbing.Name]plumbing.Object
 	read    int
 }
 
-func (m *memory) add(kind tenants.Kind, contents string) tenants.Name {
+func (m *memory) add(kind plumbing.Kind, contents string) plumbing.Name {
 	if m.objects == nil {
-		m.objects = map[tenants.Name]tenants.Object{}
+		m.objects = map[plumbing.Name]plumbing.Object{}
 	}
 	name := pack.NameOf(kind, []byte(contents))
-	m.objects[name] = tenants.Object{Name: name, Kind: kind, Contents: []byte(contents)}
+	m.objects[name] = plumbing.Object{Name: name, Kind: kind, Contents: []byte(contents)}
 	return name
 }
 
-func (m *memory) Objects(_ context.Context, names []tenants.Name, use func(tenants.Object) error) error {
+func (m *memory) Objects(_ context.Context, names []plumbing.Name, use func(plumbing.Object) error) error {
 	for _, name := range names {
 		o, is := m.objects[name]
 		if m.read++; !is {
-			return tenants.ErrMissing
+			return plumbing.ErrMissing
 		}
 		if err := use(o); err != nil {
 			return err
@@ -48,7 +48,7 @@ func (m *memory) Objects(_ context.Context, names []tenants.Name, use func(tenan
 }
 
 func (m *memory) AskAll(_ context.Context, queries []string) (replies [][]byte, errs []error, err error) {
-	faults := map[string]error{"none": tenants.ErrMissing, "many": tenants.Fault{Number: 17}, "full": tenants.Fault{Number: 90}}
+	faults := map[string]error{"none": plumbing.ErrMissing, "many": faults.Fault(17), "full": faults.Fault(90)}
 	for _, query := range queries {
 		word, back, hasBack := strings.Cut(strings.TrimPrefix(query, "rev-parse "), "~")
 		reply, err := strings.Repeat("a", 40), faults[word]
@@ -62,12 +62,12 @@ func (m *memory) AskAll(_ context.Context, queries []string) (replies [][]byte, 
 
 // firstParent gives the commit that is so many first parents back.
 func (m *memory) firstParent(of, back string) (string, error) {
-	name, _ := tenants.ParseName(of)
+	name, _ := plumbing.ParseName(of)
 	count, err := strconv.Atoi(back)
 	for ; count > 0 && err == nil; count-- {
-		head := objects.ReadHead(m.objects[name].Contents)
+		head := plumbing.ReadHead(m.objects[name].Contents)
 		if len(head.Parents) == 0 {
-			return "", tenants.ErrMissing
+			return "", plumbing.ErrMissing
 		}
 		name = head.Parents[0]
 	}
@@ -75,11 +75,11 @@ func (m *memory) firstParent(of, back string) (string, error) {
 }
 
 // Missing lists what one tree reaches.
-func (m *memory) Missing(_ context.Context, wants, _ []tenants.Name) (found tenants.Listing, err error) {
+func (m *memory) Missing(_ context.Context, wants, _ []plumbing.Name) (found plumbing.Listing, err error) {
 	for names := wants; len(names) > 0; names = names[1:] {
 		o := m.objects[names[0]]
 		found = found.With(o.Name, o.Kind, uint64(len(o.Contents)))
-		if o.Kind == tenants.Tree {
+		if o.Kind == plumbing.Tree {
 			entries, err := Entries(o)
 			if err != nil {
 				return nil, err
@@ -93,29 +93,33 @@ func (m *memory) Missing(_ context.Context, wants, _ []tenants.Name) (found tena
 }
 
 // Commits takes all names for those of commits.
-func (m *memory) Commits(_ context.Context, names []tenants.Name) (commits, others []tenants.Name, err error) {
+func (m *memory) Commits(_ context.Context, names []plumbing.Name) (commits, others []plumbing.Name, err error) {
 	return names, nil, nil
 }
 
 // Log knows no way to ask for many commits at once.
-func (m *memory) Log(context.Context, string) ([]tenants.Name, error) {
-	return nil, tenants.Fault{Number: 25}
+func (m *memory) Log(context.Context, string) ([]plumbing.Name, error) {
+	return nil, faults.Fault(25)
 }
 
-func (m *memory) commit(tree tenants.Name, seconds int, parents ...tenants.Name) tenants.Name {
+func (m *memory) commit(tree plumbing.Name, seconds int, parents ...plumbing.Name) plumbing.Name {
 	text := fmt.Sprintf("tree %v\n", tree)
 	for _, parent := range parents {
 		text += fmt.Sprintf("parent %v\n", parent)
 	}
-	return m.add(tenants.Commit, text+fmt.Sprintf("author A <a@b> 5 +0530\ncommitter B <b@c> %d -0330\n\nSubject\nof two\n\nBody\n\nmore\n", seconds))
+	return m.add(plumbing.Commit, text+fmt.Sprintf("author A <a@b> 5 +0530\ncommitter B <b@c> %d -0330\n\nSubject\nof two\n\nBody\n\nmore\n", seconds))
 }
 
-func (m *memory) tree(entries ...Entry) tenants.Name {
+func entry(mode, path string, name plumbing.Name) plumbing.Entry {
+	return plumbing.Entry{Mode: mode, Path: path, Name: name}
+}
+
+func (m *memory) tree(entries ...plumbing.Entry) plumbing.Name {
 	var text strings.Builder
 	for _, it := range entries {
 		fmt.Fprintf(&text, "%s %s\x00%s", it.Mode, it.Path, it.Name[:])
 	}
-	return m.add(tenants.Tree, text.String())
+	return m.add(plumbing.Tree, text.String())
 }
 
 var background = context.Background()
@@ -136,12 +140,12 @@ func TestNamesGivesZerosForWhatIsNotThere(t *testing.T) {
 
 func TestLogGoesFromNewToOld(t *testing.T) {
 	m := &memory{}
-	var empty tenants.Name
+	var empty plumbing.Name
 	root := m.commit(empty, 10)
 	left, right := m.commit(empty, 30, root), m.commit(empty, 20, root)
 	top := m.commit(empty, 40, left, right)
 	var seen []string
-	for from := []tenants.Name{top}; len(from) > 0; {
+	for from := []plumbing.Name{top}; len(from) > 0; {
 		commits, next, err := Log(background, m, Query{From: from, Most: 2, Bounds: much})
 		if err != nil || len(commits) > 2 {
 			t.Fatal(err)
@@ -158,8 +162,8 @@ func TestLogGoesFromNewToOld(t *testing.T) {
 
 func TestLogReadsABoundedNumber(t *testing.T) {
 	m := &memory{}
-	var empty tenants.Name
-	var heads []tenants.Name
+	var empty plumbing.Name
+	var heads []plumbing.Name
 	for branch := 0; branch < 300; branch++ {
 		head := m.commit(empty, branch)
 		for depth := 1; depth < 20; depth++ {
@@ -175,7 +179,7 @@ func TestLogReadsABoundedNumber(t *testing.T) {
 
 func TestCommitsAreRead(t *testing.T) {
 	m := &memory{}
-	c, err := ReadCommit(m.objects[m.commit(tenants.Name{}, 7)])
+	c, err := ReadCommit(m.objects[m.commit(plumbing.Name{}, 7)])
 	if err != nil || c.Subject != "Subject of two" || c.Body != "Body\n\nmore" || c.Author.Name != "A" || c.Author.Email != "a@b" {
 		t.Fatal(c, err)
 	}
@@ -183,24 +187,26 @@ func TestCommitsAreRead(t *testing.T) {
 		t.Fatal(got)
 	}
 	for _, text := range []string{"", "\n", "tree", "author", "author x\n", "author <> 99999999999999999999 +0000\ncommitter < -5 +9999\n\n", "encoding latin1\n\n\xe4"} {
-		c, err := ReadCommit(tenants.Object{Kind: tenants.Commit, Contents: []byte(text)})
+		c, err := ReadCommit(plumbing.Object{Kind: plumbing.Commit, Contents: []byte(text)})
 		if err != nil || c == nil || !c.Author.When.IsZero() || !c.Committer.When.IsZero() || strings.HasPrefix(text, "enc") && c.Subject != "ä" {
 			t.Errorf("%q: %+v %v", text, c, err)
 		}
 	}
-	if _, err := ReadCommit(tenants.Object{Kind: tenants.Blob}); !errors.Is(err, ErrKind) {
+	if _, err := ReadCommit(plumbing.Object{Kind: plumbing.Blob}); !errors.Is(err, ErrKind) {
 		t.Error(err)
 	}
 }
 
 func TestChangesAreFound(t *testing.T) {
 	m := &memory{}
-	one, two, three := m.add(tenants.Blob, "1"), m.add(tenants.Blob, "2"), m.add(tenants.Blob, "3")
-	same := m.tree(Entry{"100644", "deep", one})
-	old := m.tree(Entry{"100644", "a", one}, Entry{"40000", "b", m.tree(Entry{"100644", "x", two}, Entry{"100644", "y", two})}, Entry{"100644", "c", three},
-		Entry{"40000", "same", same}, Entry{"100644", "z", one})
-	new := m.tree(Entry{"100755", "a", one}, Entry{"100644", "b", two}, Entry{"40000", "c", m.tree(Entry{"100644", "x", one})}, Entry{"100644", "d", three},
-		Entry{"40000", "same", same}, Entry{"100644", "z", two})
+	one, two, three := m.add(plumbing.Blob, "1"), m.add(plumbing.Blob, "2"), m.add(plumbing.Blob, "3")
+	same := m.tree(entry("100644", "deep", one))
+	old := m.tree(entry("100644", "a", one), entry("40000", "b", m.tree(entry("100644", "x", two), entry("100644", "y", two))),
+		entry("100644", "c", three),
+		entry("40000", "same", same), entry("100644", "z", one))
+	new := m.tree(entry("100755", "a", one), entry("100644", "b", two), entry("40000", "c", m.tree(entry("100644", "x", one))),
+		entry("100644", "d", three),
+		entry("40000", "same", same), entry("100644", "z", two))
 	changes, isWhole, err := Changes(background, m, old, new)
 	var text []string
 	for _, it := range changes {
@@ -214,35 +220,35 @@ func TestChangesAreFound(t *testing.T) {
 	if _, _, err := Changes(background, m, old, new); err != nil {
 		t.Fatal("a tree that does not differ was read:", err)
 	}
-	if changes, isWhole, err := Changes(background, m, tenants.Name{}, tenants.Name{}); len(changes) > 0 || !isWhole || err != nil {
+	if changes, isWhole, err := Changes(background, m, plumbing.Name{}, plumbing.Name{}); len(changes) > 0 || !isWhole || err != nil {
 		t.Fatal(changes, isWhole, err)
 	}
 }
 
 func TestChangesHaveABound(t *testing.T) {
 	m := &memory{}
-	blob := m.add(tenants.Blob, "1")
-	var entries []Entry
+	blob := m.add(plumbing.Blob, "1")
+	var entries []plumbing.Entry
 	for at := 0; at < mostChanges+1; at++ {
-		entries = append(entries, Entry{"100644", fmt.Sprint(at), blob})
+		entries = append(entries, entry("100644", fmt.Sprint(at), blob))
 	}
 	wide := m.tree(entries...)
-	if changes, isWhole, err := Changes(background, m, tenants.Name{}, wide); len(changes) != mostChanges || isWhole || err != nil {
+	if changes, isWhole, err := Changes(background, m, plumbing.Name{}, wide); len(changes) != mostChanges || isWhole || err != nil {
 		t.Fatal(len(changes), isWhole, err)
 	}
 	for depth := 0; depth < 100; depth++ {
-		wide = m.tree(Entry{"40000", "a", wide}, Entry{"40000", "b", wide})
+		wide = m.tree(entry("40000", "a", wide), entry("40000", "b", wide))
 	}
 	m.read = 0
-	if _, isWhole, err := Changes(background, m, tenants.Name{}, wide); isWhole || err != nil || m.read > mostTrees {
+	if _, isWhole, err := Changes(background, m, plumbing.Name{}, wide); isWhole || err != nil || m.read > mostTrees {
 		t.Fatal(isWhole, err, m.read)
 	}
 }
 
 func TestArchivesHaveABound(t *testing.T) {
 	m := &memory{}
-	blob, odd := m.add(tenants.Blob, strings.Repeat("x", 1000)), m.add(tenants.Blob, "a\x00b")
-	tree := m.tree(Entry{"120000", "\xff\nlink", odd}, Entry{"100755", strings.Repeat("long", 100), blob}, Entry{"160000", "module", blob})
+	blob, odd := m.add(plumbing.Blob, strings.Repeat("x", 1000)), m.add(plumbing.Blob, "a\x00b")
+	tree := m.tree(entry("120000", "\xff\nlink", odd), entry("100755", strings.Repeat("long", 100), blob), entry("160000", "module", blob))
 	var text bytes.Buffer
 	if err := (Archive{Format: Tar, Prefix: "p/", Files: 10, Bytes: 3000}).Write(background, m, &text, tree); err != nil {
 		t.Fatal(err)
@@ -263,7 +269,7 @@ func TestArchivesHaveABound(t *testing.T) {
 		t.Fatalf("%q", names)
 	}
 	for depth := 0; depth < 60; depth++ {
-		tree = m.tree(Entry{"40000", "a", tree}, Entry{"40000", "b", tree})
+		tree = m.tree(entry("40000", "a", tree), entry("40000", "b", tree))
 	}
 	for _, a := range []Archive{{Format: Tar, Files: 1000, Bytes: 1 << 40}, {Format: Zip, Files: 1 << 40, Bytes: 100000}} {
 		if err := a.Write(background, m, io.Discard, tree); !errors.Is(err, ErrTooMuch) {

@@ -5,12 +5,12 @@ import (
 	"errors"
 	"sort"
 
-	"gitpoold/tenants"
+	"gitpoold/plumbing"
 )
 
 // Change is a file that differs between two trees. Old or New has no name where the file is not in that tree; a renamed file has two
 // paths and one content.
-type Change struct{ Old, New Entry }
+type Change struct{ Old, New plumbing.Entry }
 
 // Path is where the file is, or was.
 func (c Change) Path() string {
@@ -29,7 +29,7 @@ const (
 
 // Changes compares two trees; zeros are the empty one. The changes come in the order of their paths. Where it has come to its bound,
 // isWhole is false, and what it found so far is given.
-func Changes(ctx context.Context, s Source, old, new tenants.Name) (changes []Change, isWhole bool, err error) {
+func Changes(ctx context.Context, s Source, old, new plumbing.Name) (changes []Change, isWhole bool, err error) {
 	c := &comparison{source: s}
 	for wave := []pair{{"", old, new}}; len(wave) > 0; {
 		if wave, err = c.level(ctx, wave); err != nil {
@@ -46,7 +46,7 @@ func Changes(ctx context.Context, s Source, old, new tenants.Name) (changes []Ch
 // pair is two trees that stand at one path.
 type pair struct {
 	path     string
-	old, new tenants.Name
+	old, new plumbing.Name
 }
 
 type comparison struct {
@@ -76,7 +76,7 @@ func (c *comparison) level(ctx context.Context, wave []pair) (after []pair, err 
 			return nil, nil
 		}
 		olds, news := differing(trees[it.old], trees[it.new])
-		unmet := make(map[string]Entry, len(news))
+		unmet := make(map[string]plumbing.Entry, len(news))
 		for _, entry := range news {
 			unmet[entry.Path] = entry
 		}
@@ -86,7 +86,7 @@ func (c *comparison) level(ctx context.Context, wave []pair) (after []pair, err 
 		}
 		for _, entry := range news {
 			if _, isNew := unmet[entry.Path]; isNew {
-				after = c.compare(after, it.path, Entry{}, entry)
+				after = c.compare(after, it.path, plumbing.Entry{}, entry)
 			}
 		}
 	}
@@ -94,7 +94,7 @@ func (c *comparison) level(ctx context.Context, wave []pair) (after []pair, err 
 }
 
 // differing leaves out the entries at the beginnings and at the ends of two trees that are the same.
-func differing(olds, news []Entry) (left, right []Entry) {
+func differing(olds, news []plumbing.Entry) (left, right []plumbing.Entry) {
 	for len(olds) > 0 && len(news) > 0 && olds[0] == news[0] {
 		olds, news = olds[1:], news[1:]
 	}
@@ -105,16 +105,16 @@ func differing(olds, news []Entry) (left, right []Entry) {
 }
 
 // read reads the trees of a level, each once.
-func (c *comparison) read(ctx context.Context, wave []pair) (map[tenants.Name][]Entry, error) {
-	trees := map[tenants.Name][]Entry{}
-	var names []tenants.Name
+func (c *comparison) read(ctx context.Context, wave []pair) (map[plumbing.Name][]plumbing.Entry, error) {
+	trees := map[plumbing.Name][]plumbing.Entry{}
+	var names []plumbing.Name
 	for _, it := range wave {
 		names = append(names, it.old, it.new)
 	}
 	names = fresh(names, trees)
 	c.trees += len(names)
 	read := 0
-	return trees, c.source.Objects(ctx, names, func(o tenants.Object) (err error) {
+	return trees, c.source.Objects(ctx, names, func(o plumbing.Object) (err error) {
 		trees[o.Name], err = Entries(o)
 		if read += len(trees[o.Name]); read > mostEntries {
 			return errCut
@@ -126,7 +126,7 @@ func (c *comparison) read(ctx context.Context, wave []pair) (map[tenants.Name][]
 var errCut = errors.New("the trees have more entries than are compared")
 
 // compare compares what two trees have under one name: directories are compared later, anything else is a change.
-func (c *comparison) compare(after []pair, folder string, old, new Entry) []pair {
+func (c *comparison) compare(after []pair, folder string, old, new plumbing.Entry) []pair {
 	if old.Mode == new.Mode && old.Name == new.Name {
 		return after
 	}
@@ -137,15 +137,15 @@ func (c *comparison) compare(after []pair, folder string, old, new Entry) []pair
 	below := pair{path: path + "/"}
 	change := Change{}
 	for _, it := range []struct {
-		from Entry
-		tree *tenants.Name
-		file *Entry
+		from plumbing.Entry
+		tree *plumbing.Name
+		file *plumbing.Entry
 	}{{old, &below.old, &change.Old}, {new, &below.new, &change.New}} {
 		switch {
 		case it.from.IsTree():
 			*it.tree = it.from.Name
 		case !it.from.Name.IsZero():
-			*it.file = Entry{it.from.Mode, path, it.from.Name}
+			*it.file = plumbing.Entry{Mode: it.from.Mode, Path: path, Name: it.from.Name}
 		}
 	}
 	if below.old != below.new {
@@ -163,7 +163,7 @@ func (c *comparison) compare(after []pair, folder string, old, new Entry) []pair
 
 // rename makes one change of two where a file went and one with the same content came.
 func (c *comparison) rename() {
-	gone := map[tenants.Name][]int{}
+	gone := map[plumbing.Name][]int{}
 	for at, it := range c.changes {
 		if it.New.Name.IsZero() {
 			gone[it.Old.Name] = append(gone[it.Old.Name], at)

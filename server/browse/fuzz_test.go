@@ -6,8 +6,7 @@ import (
 	"time"
 	"unicode/utf8"
 
-	"gitpoold/objects"
-	"gitpoold/tenants"
+	"gitpoold/plumbing"
 )
 
 // FuzzReaders reads what may stand in a tenant as pages do, and asks that all of it can be shown.
@@ -21,19 +20,19 @@ func FuzzReaders(f *testing.F) {
 		if len(contents) > 1<<16 {
 			return
 		}
-		commit, err := ReadCommit(tenants.Object{Kind: tenants.Commit, Contents: contents})
+		commit, err := ReadCommit(plumbing.Object{Kind: plumbing.Commit, Contents: contents})
 		if err != nil {
 			t.Fatal(err)
 		}
 		showPerson(t, commit.Author)
 		showPerson(t, commit.Committer)
-		if head := objects.ReadHead(contents); head.Tree != commit.Tree || len(head.Parents) != len(commit.Parents) {
+		if head := plumbing.ReadHead(contents); head.Tree != commit.Tree || len(head.Parents) != len(commit.Parents) {
 			t.Fatal("another head")
 		}
 		if utf8.Valid(contents) && !utf8.ValidString(commit.Subject+commit.Body) {
 			t.Fatalf("%q", commit.Subject)
 		}
-		tag, err := ReadTag(tenants.Object{Kind: tenants.Tag, Contents: contents})
+		tag, err := ReadTag(plumbing.Object{Kind: plumbing.Tag, Contents: contents})
 		if err != nil {
 			t.Fatal(err)
 		}
@@ -53,7 +52,7 @@ func showPerson(t *testing.T, p Person) {
 // readTree asks that the entries of a tree stand in its bytes in their order.
 func readTree(t *testing.T, contents []byte) {
 	t.Helper()
-	entries, err := Entries(tenants.Object{Kind: tenants.Tree, Contents: contents})
+	entries, err := Entries(plumbing.Object{Kind: plumbing.Tree, Contents: contents})
 	if err != nil {
 		t.Fatal(err)
 	}

@@ -3,14 +3,14 @@ package browse
 import (
 	"context"
 
-	"gitpoold/tenants"
+	"gitpoold/plumbing"
 )
 
 // Latest gives, for entries of a directory of a commit, the commit that changed each last, as a log of one commit for each path does. What it
 // has not found within its bounds is not there.
 func Latest(ctx context.Context, s Source, of *Commit, path string, names []string, b Bounds) (map[string]*Commit, error) {
-	l := &latest{past: newPast(s, b, path), open: map[tenants.Name][]string{of.Name: names}, found: map[string]*Commit{}}
-	l.folders = versions[map[string]Entry]{past: l.past, make: entriesOf}
+	l := &latest{past: newPast(s, b, path), open: map[plumbing.Name][]string{of.Name: names}, found: map[string]*Commit{}}
+	l.folders = versions[map[string]plumbing.Entry]{past: l.past, make: entriesOf}
 	l.push(of)
 	for l.queue.Len() > 0 && !l.isSpent() {
 		if err := l.step(ctx, l.pop()); err != nil {
@@ -22,9 +22,9 @@ func Latest(ctx context.Context, s Source, of *Commit, path string, names []stri
 
 type latest struct {
 	*past
-	open    map[tenants.Name][]string // of commits that wait, the entries that were changed there or before
+	open    map[plumbing.Name][]string // of commits that wait, the entries that were changed there or before
 	found   map[string]*Commit
-	folders versions[map[string]Entry]
+	folders versions[map[string]plumbing.Entry]
 }
 
 // step lets the parents of a commit have the entries that they have in the same way. It has changed the others.
@@ -77,16 +77,16 @@ func (l *latest) parted(ctx context.Context, c, parent *Commit, names []string) 
 }
 
 // entries gives what a directory has.
-func (l *latest) entries(ctx context.Context, it Entry) (map[string]Entry, error) {
+func (l *latest) entries(ctx context.Context, it plumbing.Entry) (map[string]plumbing.Entry, error) {
 	if !it.IsTree() {
 		return nil, nil
 	}
 	return l.folders.of(ctx, it)
 }
 
-func entriesOf(o tenants.Object) (map[string]Entry, error) {
+func entriesOf(o plumbing.Object) (map[string]plumbing.Entry, error) {
 	all, err := Entries(o)
-	entries := make(map[string]Entry, len(all))
+	entries := make(map[string]plumbing.Entry, len(all))
 	for _, entry := range all {
 		entries[entry.Path] = entry
 	}

@@ -3,12 +3,12 @@ package browse
 import (
 	"context"
 
-	"gitpoold/tenants"
+	"gitpoold/plumbing"
 )
 
 // Query says which commits of a history Log gives.
 type Query struct {
-	From []tenants.Name
+	From []plumbing.Name
 	Path string  // those alone that changed what is there
 	Text Pattern // those alone whose message has it
 	Most int     // so many at most
@@ -17,13 +17,13 @@ type Query struct {
 
 // Log gives commits that some commits reach, from new to old by the committer's time, and those with which the next page begins. Of a path it
 // gives the commits that git-log(1) gives. Where clocks went backwards, a later page may show a commit again.
-func Log(ctx context.Context, s Source, q Query) (commits []*Commit, next []tenants.Name, err error) {
+func Log(ctx context.Context, s Source, q Query) (commits []*Commit, next []plumbing.Name, err error) {
 	p := newPast(s, q.Bounds, q.Path)
 	from, err := p.load(ctx, q.From)
 	if err != nil {
 		return nil, nil, err
 	}
-	seen := map[tenants.Name]bool{}
+	seen := map[plumbing.Name]bool{}
 	p.pushUnseen(seen, from)
 	for p.queue.Len() > 0 && len(commits) < q.Most && !p.isSpent() {
 		c := p.pop()
@@ -45,7 +45,7 @@ func Log(ctx context.Context, s Source, q Query) (commits []*Commit, next []tena
 	return commits, next, nil
 }
 
-func (p *past) pushUnseen(seen map[tenants.Name]bool, commits []*Commit) {
+func (p *past) pushUnseen(seen map[plumbing.Name]bool, commits []*Commit) {
 	for _, c := range commits {
 		if !seen[c.Name] {
 			seen[c.Name] = true

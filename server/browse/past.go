@@ -7,7 +7,7 @@ import (
 	"fmt"
 	"strings"
 
-	"gitpoold/tenants"
+	"gitpoold/plumbing"
 )
 
 // mostAhead is how many commits a walk reads at once ahead of where it is.
@@ -19,19 +19,19 @@ type past struct {
 	*metered
 	path    string
 	finders map[string]*finder
-	read    map[tenants.Name]*Commit
+	read    map[plumbing.Name]*Commit
 	ahead   int
-	coming  []Entry // what the commits that were read have at the path, without what the walk has passed
+	coming  []plumbing.Entry // what the commits that were read have at the path, without what the walk has passed
 	queue   queue
-	queued  map[tenants.Name]bool
+	queued  map[plumbing.Name]bool
 }
 
 func newPast(s Source, b Bounds, path string) *past {
-	return &past{metered: b.of(s), path: path, finders: map[string]*finder{}, read: map[tenants.Name]*Commit{}, queued: map[tenants.Name]bool{}}
+	return &past{metered: b.of(s), path: path, finders: map[string]*finder{}, read: map[plumbing.Name]*Commit{}, queued: map[plumbing.Name]bool{}}
 }
 
 // load gives commits in the order of their names, and reads those that were not read yet.
-func (p *past) load(ctx context.Context, names []tenants.Name) ([]*Commit, error) {
+func (p *past) load(ctx context.Context, names []plumbing.Name) ([]*Commit, error) {
 	if unread := fresh(names, p.read); len(unread) > 0 {
 		ahead, err := p.firstParents(ctx, unread)
 		if err != nil {
@@ -44,14 +44,14 @@ func (p *past) load(ctx context.Context, names []tenants.Name) ([]*Commit, error
 	commits := make([]*Commit, len(names))
 	for at, name := range names {
 		if commits[at] = p.read[name]; commits[at] == nil {
-			return nil, tenants.ErrMissing
+			return nil, plumbing.ErrMissing
 		}
 	}
 	return commits, nil
 }
 
 // firstParents gives the first parents of commits, their first parents and so on: the further a walk has come, the more.
-func (p *past) firstParents(ctx context.Context, of []tenants.Name) ([]tenants.Name, error) {
+func (p *past) firstParents(ctx context.Context, of []plumbing.Name) ([]plumbing.Name, error) {
 	var expressions []string
 	for _, name := range of {
 		for back := 1; back <= p.ahead/len(of); back++ {
@@ -67,9 +67,9 @@ func (p *past) firstParents(ctx context.Context, of []tenants.Name) ([]tenants.N
 	return Names(ctx, p.Source, expressions...)
 }
 
-func (p *past) readAll(ctx context.Context, names []tenants.Name) error {
-	var trees []tenants.Name
-	err := p.Objects(ctx, names, func(o tenants.Object) error {
+func (p *past) readAll(ctx context.Context, names []plumbing.Name) error {
+	var trees []plumbing.Name
+	err := p.Objects(ctx, names, func(o plumbing.Object) error {
 		c, err := ReadCommit(o)
 		if err == nil {
 			c.trim()
@@ -111,9 +111,9 @@ func (p *past) finder(path string) *finder {
 }
 
 // at gives what a commit has at a path.
-func (p *past) at(ctx context.Context, c *Commit, path string) (Entry, error) {
+func (p *past) at(ctx context.Context, c *Commit, path string) (plumbing.Entry, error) {
 	f := p.finder(path)
-	err := f.find(ctx, p, []tenants.Name{c.Tree})
+	err := f.find(ctx, p, []plumbing.Name{c.Tree})
 	return f.at(c.Tree), err
 }
 

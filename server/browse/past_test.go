@@ -14,21 +14,21 @@ import (
 	"time"
 
 	"gitpoold/linediff"
-	"gitpoold/tenants"
+	"gitpoold/plumbing"
 )
 
 // told is a file whose lines each say which commit brought them.
 type told struct {
 	lines []string
-	by    []tenants.Name
+	by    []plumbing.Name
 }
 
 // history makes commits that each change a few lines of a file, and gives the last one and what the file has there.
 func history(m *memory, random *rand.Rand, commits int) (*Commit, told) {
 	var file told
-	var last []tenants.Name
+	var last []plumbing.Name
 	for number := 0; number < commits; number++ {
-		after := told{append([]string{}, file.lines...), append([]tenants.Name{}, file.by...)}
+		after := told{append([]string{}, file.lines...), append([]plumbing.Name{}, file.by...)}
 		var fresh []int
 		for count := 1 + random.Intn(5); count > 0; count-- {
 			at := random.Intn(len(after.lines) + 1)
@@ -38,10 +38,10 @@ func history(m *memory, random *rand.Rand, commits int) (*Commit, told) {
 			}
 			line := fmt.Sprintf("%d of %d\n", count, number)
 			after.lines = append(after.lines[:at], append([]string{line}, after.lines[at:]...)...)
-			after.by = append(after.by[:at], append([]tenants.Name{{}}, after.by[at:]...)...)
+			after.by = append(after.by[:at], append([]plumbing.Name{{}}, after.by[at:]...)...)
 		}
-		blob := m.add(tenants.Blob, strings.Join(after.lines, ""))
-		name := m.commit(m.tree(Entry{"40000", "d", m.tree(Entry{"100644", "f", blob})}), 1000+number, last...)
+		blob := m.add(plumbing.Blob, strings.Join(after.lines, ""))
+		name := m.commit(m.tree(entry("40000", "d", m.tree(entry("100644", "f", blob)))), 1000+number, last...)
 		for at, it := range after.by {
 			if it.IsZero() {
 				fresh = append(fresh, at)
@@ -50,7 +50,7 @@ func history(m *memory, random *rand.Rand, commits int) (*Commit, told) {
 		for _, at := range fresh {
 			after.by[at] = name
 		}
-		file, last = after, []tenants.Name{name}
+		file, last = after, []plumbing.Name{name}
 	}
 	c, _ := ReadCommit(m.objects[last[0]])
 	return c, file
@@ -75,10 +75,10 @@ func TestBlameSaysWhoBroughtALine(t *testing.T) {
 	}
 }
 
-func blobAt(t *testing.T, m *memory, c *Commit, path string) tenants.Name {
+func blobAt(t *testing.T, m *memory, c *Commit, path string) plumbing.Name {
 	t.Helper()
 	f := newFinder(path)
-	if err := f.find(background, m, []tenants.Name{c.Tree}); err != nil {
+	if err := f.find(background, m, []plumbing.Name{c.Tree}); err != nil {
 		t.Fatal(err)
 	}
 	return f.at(c.Tree).Name
@@ -99,7 +99,7 @@ func TestWalksEndAtTheirBounds(t *testing.T) {
 		if err != nil || len(found) != len(file.lines) || older == 0 || m.read > 1000 {
 			t.Errorf("%+v: %d of %d lines, %d objects, %v", bounds, older, len(found), m.read, err)
 		}
-		if _, next, err := Log(background, m, Query{From: []tenants.Name{of.Name}, Path: "none", Most: 50, Bounds: bounds}); err != nil || len(next) == 0 {
+		if _, next, err := Log(background, m, Query{From: []plumbing.Name{of.Name}, Path: "none", Most: 50, Bounds: bounds}); err != nil || len(next) == 0 {
 			t.Errorf("%+v: the history ends: %v", bounds, err)
 		}
 	}
@@ -111,8 +111,8 @@ func TestWalksEndAtTheirBounds(t *testing.T) {
 
 func TestBlameOfWhatIsNoText(t *testing.T) {
 	m := &memory{}
-	large := m.add(tenants.Blob, strings.Repeat("x\n", mostBlamed))
-	c, err := ReadCommit(m.objects[m.commit(m.tree(Entry{"100644", "large", large}, Entry{"160000", "module", large}), 1)])
+	large := m.add(plumbing.Blob, strings.Repeat("x\n", mostBlamed))
+	c, err := ReadCommit(m.objects[m.commit(m.tree(entry("100644", "large", large), entry("160000", "module", large)), 1)])
 	if err != nil {
 		t.Fatal(err)
 	}
@@ -126,11 +126,11 @@ func TestBlameOfWhatIsNoText(t *testing.T) {
 // TestArchivesStayInside has trees that no git would write, of which some entries lead out of the archive.
 func TestArchivesStayInside(t *testing.T) {
 	m := &memory{}
-	blob, target := m.add(tenants.Blob, "contents"), m.add(tenants.Blob, "/etc")
-	below := m.tree(Entry{"100644", "passwd", blob})
-	tree := m.tree(Entry{"40000", "..", below}, Entry{"40000", ".", below}, Entry{"100644", "", blob}, Entry{"100644", "/etc/passwd", blob},
-		Entry{"100644", "../x", blob}, Entry{"120000", "link", target}, Entry{"40000", "link", below}, Entry{"100644", "good", blob},
-		Entry{"100644", `..\x`, blob}, Entry{"0100664", "odd", blob}, Entry{"040000", "zero", below})
+	blob, target := m.add(plumbing.Blob, "contents"), m.add(plumbing.Blob, "/etc")
+	below := m.tree(entry("100644", "passwd", blob))
+	tree := m.tree(entry("40000", "..", below), entry("40000", ".", below), entry("100644", "", blob), entry("100644", "/etc/passwd", blob),
+		entry("100644", "../x", blob), entry("120000", "link", target), entry("40000", "link", below), entry("100644", "good", blob),
+		entry("100644", `..\x`, blob), entry("0100664", "odd", blob), entry("040000", "zero", below))
 	want := map[Format]string{Tar: `p/ p/link p/good p/..\x p/odd p/zero/ p/zero/passwd`, Zip: "p/ p/link p/good p/odd p/zero/ p/zero/passwd"}
 	want[TarGz] = want[Tar]
 	for _, format := range Formats {
@@ -180,11 +180,11 @@ func members(t *testing.T, format Format, text []byte) (names []string) {
 }
 
 func TestModesAreReadByTheirFormat(t *testing.T) {
-	name := tenants.Name{1}
+	name := plumbing.Name{1}
 	for mode, want := range map[string]string{"40000": "tree", "040000": "tree odd", "40755": "tree odd", "100644": "file", "100755": "run", "100664": "file odd",
 		"100775": "run odd", "120000": "link", "120777": "link odd", "160000": "module", "0": "module odd", "644": "module odd", "": "module odd",
 		"x": "module odd"} {
-		it, got := (Entry{mode, "x", name}), ""
+		it, got := entry(mode, "x", name), ""
 		for word, is := range map[string]bool{"tree": it.IsTree(), "file": it.IsFile() && !it.IsExecutable(), "run": it.IsExecutable(), "link": it.IsLink(),
 			"module": it.IsGitlink()} {
 			if is {
@@ -203,12 +203,12 @@ func TestModesAreReadByTheirFormat(t *testing.T) {
 func TestSignaturesAndFurtherHeaders(t *testing.T) {
 	text := "tree 4b825dc642cb6eb9a060e54bf8d69288fbee4904\nauthor A <a@b> 1 +0000\ncommitter A <a@b> 1 +0000\nencoding UTF-8\n" +
 		"gpgsig -----BEGIN SSH SIGNATURE-----\n abc\n -----END SSH SIGNATURE-----\nHG:extra a\n b\nempty\n\nSubject\n"
-	c, err := ReadCommit(tenants.Object{Kind: tenants.Commit, Contents: []byte(text)})
+	c, err := ReadCommit(plumbing.Object{Kind: plumbing.Commit, Contents: []byte(text)})
 	if err != nil || c.Signature != "SSH" || fmt.Sprintf("%q", c.Further) != `[{"HG:extra" "a\nb"} {"empty" ""}]` || c.Subject != "Subject" {
 		t.Fatalf("%+v %v", c, err)
 	}
 	message := "A tag\n\nof two\n-----BEGIN PGP SIGNATURE-----\nabc\n-----END PGP SIGNATURE-----\n"
-	tag, err := ReadTag(tenants.Object{Kind: tenants.Tag, Contents: []byte("object 4b\ntype commit\ntag x\n\n" + message)})
+	tag, err := ReadTag(plumbing.Object{Kind: plumbing.Tag, Contents: []byte("object 4b\ntype commit\ntag x\n\n" + message)})
 	if err != nil || tag.Signature != "OpenPGP" || tag.Subject != "A tag" || tag.Body != "of two" {
 		t.Fatalf("%+v %v", tag, err)
 	}
@@ -227,13 +227,13 @@ func TestPatternsFold(t *testing.T) {
 
 func TestASearchHasBounds(t *testing.T) {
 	m := &memory{}
-	small, large := m.add(tenants.Blob, "a needle\nNeedle needle\nneedle"), m.add(tenants.Blob, strings.Repeat("needle\n", 1000))
-	binary := m.add(tenants.Blob, "needle\x00")
-	var entries []Entry
+	small, large := m.add(plumbing.Blob, "a needle\nNeedle needle\nneedle"), m.add(plumbing.Blob, strings.Repeat("needle\n", 1000))
+	binary := m.add(plumbing.Blob, "needle\x00")
+	var entries []plumbing.Entry
 	for at := 0; at < 50; at++ {
-		entries = append(entries, Entry{"100644", fmt.Sprintf("n%02d", at), small})
+		entries = append(entries, entry("100644", fmt.Sprintf("n%02d", at), small))
 	}
-	tree := m.tree(append(entries, Entry{"100644", "a-large", large}, Entry{"100644", "b-binary", binary}, Entry{"120000", "c-link", small})...)
+	tree := m.tree(append(entries, entry("100644", "a-large", large), entry("100644", "b-binary", binary), entry("120000", "c-link", small))...)
 	q := Search{Files: 60, Lines: 2, Size: 1000, Bounds: much}
 	found, isWhole, err := q.Text(background, m, tree, NewPattern("needle"))
 	if err != nil || !isWhole || len(found) != 50 || fmt.Sprint(found[0]) != "{n00 [{1 a needle\n} {2 Needle needle\n}] 3}" {
@@ -247,7 +247,7 @@ func TestASearchHasBounds(t *testing.T) {
 		t.Fatal(found, isWhole, err)
 	}
 	for depth := 0; depth < 60; depth++ {
-		tree = m.tree(Entry{"40000", "a", tree}, Entry{"40000", "b", tree})
+		tree = m.tree(entry("40000", "a", tree), entry("40000", "b", tree))
 	}
 	q.Bounds = Bounds{1000, 1 << 20, time.Hour}
 	if _, isWhole, err := q.Paths(background, m, tree, NewPattern("none")); isWhole || err != nil {

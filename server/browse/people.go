@@ -7,8 +7,7 @@ import (
 	"strings"
 	"time"
 
-	"gitpoold/objects"
-	"gitpoold/tenants"
+	"gitpoold/plumbing"
 )
 
 // Person is who wrote, committed or tagged something, and when.
@@ -22,9 +21,9 @@ type Message struct{ Subject, Body string }
 
 // Commit is a commit.
 type Commit struct {
-	Name              tenants.Name
-	Tree              tenants.Name
-	Parents           []tenants.Name
+	Name              plumbing.Name
+	Tree              plumbing.Name
+	Parents           []plumbing.Name
 	Author, Committer Person
 	Message
 	// Signature is what the commit is signed with, such as OpenPGP, or "". Nobody has verified it.
@@ -38,8 +37,8 @@ type Header struct{ Word, Value string }
 
 // Tag is an annotated tag.
 type Tag struct {
-	Name   tenants.Name
-	Target tenants.Name
+	Name   plumbing.Name
+	Target plumbing.Name
 	Label  string // the tag's own name
 	Tagger Person
 	Message
@@ -47,12 +46,12 @@ type Tag struct {
 }
 
 // ReadCommit reads a commit.
-func ReadCommit(o tenants.Object) (*Commit, error) {
-	if o.Kind != tenants.Commit {
+func ReadCommit(o plumbing.Object) (*Commit, error) {
+	if o.Kind != plumbing.Commit {
 		return nil, fmt.Errorf("%v: %w", o.Name, ErrKind)
 	}
 	head, message := readHeader(o.Contents)
-	read := objects.ReadHead(o.Contents)
+	read := plumbing.ReadHead(o.Contents)
 	text := decoder(head["encoding"])
 	c := &Commit{Name: o.Name, Tree: read.Tree, Parents: read.Parents, Author: readPerson(head["author"], text),
 		Committer: readPerson(head["committer"], text), Message: readMessage(text(message))}
@@ -67,13 +66,13 @@ func ReadCommit(o tenants.Object) (*Commit, error) {
 }
 
 // ReadTag reads an annotated tag.
-func ReadTag(o tenants.Object) (*Tag, error) {
-	if o.Kind != tenants.Tag {
+func ReadTag(o plumbing.Object) (*Tag, error) {
+	if o.Kind != plumbing.Tag {
 		return nil, fmt.Errorf("%v: %w", o.Name, ErrKind)
 	}
 	head, message := readHeader(o.Contents)
 	text := decoder(nil)
-	target, _ := objects.Tagged(o.Contents)
+	target, _ := plumbing.Tagged(o.Contents)
 	t := &Tag{Name: o.Name, Target: target, Label: string(head["tag"]), Tagger: readPerson(head["tagger"], text)}
 	if at := signatureAt(string(message)); at >= 0 {
 		t.Signature = signatureOf(string(message[at:]))
@@ -102,9 +101,7 @@ func signatureAt(message string) int {
 	found := -1
 	for _, it := range kinds {
 		at := strings.LastIndex("\n"+message, "\n"+it.front)
-		if at > found {
-			found = at
-		}
+		found = max(found, at)
 	}
 	return found
 }

@@ -7,7 +7,7 @@ import (
 	"sort"
 	"strings"
 
-	"gitpoold/tenants"
+	"gitpoold/plumbing"
 )
 
 // Pattern is text that is looked for. Where it has no capital letter of ASCII, such letters count as small ones. The empty text is everywhere.
@@ -78,7 +78,7 @@ type Search struct {
 }
 
 // Paths gives the files of a tree whose paths have a text, in their order. Where it has come to its bound, isWhole is false.
-func (q Search) Paths(ctx context.Context, s Source, tree tenants.Name, p Pattern) (found []Match, isWhole bool, err error) {
+func (q Search) Paths(ctx context.Context, s Source, tree plumbing.Name, p Pattern) (found []Match, isWhole bool, err error) {
 	files, isWhole, err := filesOf(ctx, q.of(s), tree)
 	for _, it := range files {
 		if !p.IsIn(it.Path) {
@@ -94,7 +94,7 @@ func (q Search) Paths(ctx context.Context, s Source, tree tenants.Name, p Patter
 
 // Text gives the files of a tree of which a line has a text, in the order of their paths. It looks into no link, no binary file and none larger
 // than Size. Where it has come to its bound, isWhole is false.
-func (q Search) Text(ctx context.Context, s Source, tree tenants.Name, p Pattern) (found []Match, isWhole bool, err error) {
+func (q Search) Text(ctx context.Context, s Source, tree plumbing.Name, p Pattern) (found []Match, isWhole bool, err error) {
 	m := q.of(s)
 	files, isWhole, err := filesOf(ctx, m, tree)
 	if err != nil {
@@ -104,15 +104,15 @@ func (q Search) Text(ctx context.Context, s Source, tree tenants.Name, p Pattern
 	if err != nil {
 		return nil, false, err
 	}
-	paths := map[tenants.Name][]string{}
-	var names []tenants.Name
+	paths := map[plumbing.Name][]string{}
+	var names []plumbing.Name
 	for _, it := range files {
 		if len(paths[it.Name]) == 0 {
 			names = append(names, it.Name)
 		}
 		paths[it.Name] = append(paths[it.Name], it.Path)
 	}
-	err = m.Objects(ctx, names, func(o tenants.Object) error {
+	err = m.Objects(ctx, names, func(o plumbing.Object) error {
 		match := p.match(o.Contents, q.Lines)
 		for _, path := range paths[o.Name] {
 			if match.Path = path; match.Count > 0 {
@@ -132,12 +132,12 @@ func (q Search) Text(ctx context.Context, s Source, tree tenants.Name, p Pattern
 }
 
 // small leaves out files that are too large, and links.
-func (q Search) small(ctx context.Context, s Source, tree tenants.Name, files []Entry) (small []Entry, err error) {
-	sizes, err := s.Missing(ctx, []tenants.Name{tree}, nil)
+func (q Search) small(ctx context.Context, s Source, tree plumbing.Name, files []plumbing.Entry) (small []plumbing.Entry, err error) {
+	sizes, err := s.Missing(ctx, []plumbing.Name{tree}, nil)
 	if err != nil {
 		return nil, err
 	}
-	isLarge := map[tenants.Name]bool{}
+	isLarge := map[plumbing.Name]bool{}
 	for at := 0; at < sizes.Len(); at++ {
 		if sizes.Size(at) > q.Size {
 			isLarge[sizes.Name(at)] = true
@@ -199,7 +199,7 @@ func IsBinary(contents []byte) bool {
 // folder is a directory with its path, which ends in a slash or is empty.
 type folder struct {
 	path string
-	tree tenants.Name
+	tree plumbing.Name
 }
 
 // mostPaths is how many bytes the paths of a tree may have together.
@@ -207,14 +207,14 @@ const mostPaths = 32 << 20
 
 // lister lists the files of a tree, a level of directories at a time.
 type lister struct {
-	files   []Entry
+	files   []plumbing.Entry
 	below   []folder
 	entries int
 	paths   int // bytes
 }
 
 // filesOf gives the files of a tree and of the trees in it, with their whole paths, in the order of these.
-func filesOf(ctx context.Context, m *metered, tree tenants.Name) (files []Entry, isWhole bool, err error) {
+func filesOf(ctx context.Context, m *metered, tree plumbing.Name) (files []plumbing.Entry, isWhole bool, err error) {
 	l := &lister{below: []folder{{"", tree}}}
 	for isWhole = true; isWhole && len(l.below) > 0; {
 		if isWhole, err = l.level(ctx, m); err != nil {
@@ -227,9 +227,9 @@ func filesOf(ctx context.Context, m *metered, tree tenants.Name) (files []Entry,
 
 // level lists the directories of a level. It is false where the tree is larger than is listed.
 func (l *lister) level(ctx context.Context, m *metered) (isWhole bool, err error) {
-	wave, trees := l.below, map[tenants.Name][]Entry{}
+	wave, trees := l.below, map[plumbing.Name][]plumbing.Entry{}
 	l.below = nil
-	err = m.Objects(ctx, treesOf(wave), func(o tenants.Object) (err error) {
+	err = m.Objects(ctx, treesOf(wave), func(o plumbing.Object) (err error) {
 		trees[o.Name], err = Entries(o)
 		if m.isSpent() {
 			return errSpent
@@ -250,16 +250,16 @@ func (l *lister) level(ctx context.Context, m *metered) (isWhole bool, err error
 	return true, nil
 }
 
-func treesOf(wave []folder) []tenants.Name {
-	names := make([]tenants.Name, len(wave))
+func treesOf(wave []folder) []plumbing.Name {
+	names := make([]plumbing.Name, len(wave))
 	for at, it := range wave {
 		names[at] = it.tree
 	}
-	return fresh(names, map[tenants.Name]bool{})
+	return fresh(names, map[plumbing.Name]bool{})
 }
 
 // list adds what a directory has, as far as that is within the bounds.
-func (l *lister) list(f folder, entries []Entry) bool {
+func (l *lister) list(f folder, entries []plumbing.Entry) bool {
 	for _, it := range entries {
 		l.entries++
 		if l.paths += len(f.path) + len(it.Path); l.entries > mostEntries || l.paths > mostPaths {
@@ -269,7 +269,7 @@ func (l *lister) list(f folder, entries []Entry) bool {
 		case it.IsTree():
 			l.below = append(l.below, folder{f.path + it.Path + "/", it.Name})
 		case it.IsBlob():
-			l.files = append(l.files, Entry{it.Mode, f.path + it.Path, it.Name})
+			l.files = append(l.files, plumbing.Entry{Mode: it.Mode, Path: f.path + it.Path, Name: it.Name})
 		}
 	}
 	return true

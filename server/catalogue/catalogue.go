@@ -9,9 +9,10 @@ import (
 	"bytes"
 	"errors"
 	"fmt"
+	"maps"
 	"os"
 	"path/filepath"
-	"sort"
+	"slices"
 	"strconv"
 	"strings"
 	"sync"
@@ -19,8 +20,9 @@ import (
 	"unicode"
 	"unicode/utf8"
 
-	"gitpoold/lists"
+	"gitpoold/configfile"
 	"gitpoold/regular"
+	"gitpoold/statefile"
 	"gitpoold/tenants"
 )
 
@@ -35,22 +37,20 @@ const longest = 300
 
 // Catalogue answers what is said of tenants. Its methods may be called by many goroutines at once.
 type Catalogue struct {
-	texts *lists.Followed[map[string]string]
-	path  string
-	tell  func(format string, values ...any)
-
-	saving    sync.Mutex
-	mutex     sync.Mutex
-	pushed    map[string]time.Time
-	isChanged bool
+	// Writer writes the file of pushes.
+	statefile.Writer
+	texts  *configfile.Followed[map[string]string]
+	mutex  sync.Mutex
+	pushed map[string]time.Time
 }
 
 // Load reads the files of a folder. `tell` gets a line for the operator where they cannot be read or written later on. A file of pushes that is
 // not there, or a line of it that is damaged, has none.
 func Load(folder string, tell func(format string, values ...any)) (*Catalogue, error) {
 	path := filepath.Join(folder, FileName)
-	texts, err := lists.Follow(func() (map[string]string, error) { return read(path) }, tell, path)
-	c := &Catalogue{texts: texts, path: filepath.Join(folder, pushedName), tell: tell, pushed: map[string]time.Time{}}
+	texts, err := configfile.Follow(func() (map[string]string, error) { return read(path) }, tell, path)
+	c := &Catalogue{texts: texts, pushed: map[string]time.Time{}}
+	c.Path, c.Text, c.Tell, c.What = filepath.Join(folder, pushedName), c.text, tell, "when repositories were pushed to is not written"
 	if err == nil {
 		err = c.readPushed()
 	}
@@ -88,60 +88,15 @@ func (c *Catalogue) Note(tenant string) {
 	}
 	c.mutex.Lock()
 	defer c.mutex.Unlock()
-	c.pushed[tenant], c.isChanged = time.Now(), true
-}
-
-// Save writes when tenants were pushed to, if there were pushes since the last time.
-func (c *Catalogue) Save() {
-	c.saving.Lock()
-	defer c.saving.Unlock()
-	text := c.text()
-	if text == nil {
-		return
-	}
-	err := os.WriteFile(c.path+".new", text, 0o600)
-	if err == nil {
-		err = os.Rename(c.path+".new", c.path)
-	}
-	if err != nil {
-		c.tell("when repositories were pushed to is not written: %v", err)
-		c.mutex.Lock()
-		c.isChanged = true
-		c.mutex.Unlock()
-	}
-}
-
-// saveEvery is how often the file of pushes is written.
-const saveEvery = 10 * time.Second
-
-// Keep writes the file of pushes from time to time, until `done`.
-func (c *Catalogue) Keep(done <-chan struct{}) {
-	ticker := time.NewTicker(saveEvery)
-	defer ticker.Stop()
-	for {
-		select {
-		case <-done:
-			return
-		case <-ticker.C:
-			c.Save()
-		}
-	}
+	c.pushed[tenant] = time.Now()
+	c.Changed()
 }
 
 func (c *Catalogue) text() []byte {
 	c.mutex.Lock()
 	defer c.mutex.Unlock()
-	if !c.isChanged {
-		return nil
-	}
-	c.isChanged = false
-	names := make([]string, 0, len(c.pushed))
-	for name := range c.pushed {
-		names = append(names, name)
-	}
-	sort.Strings(names)
 	var text bytes.Buffer
-	for _, name := range names {
+	for _, name := range slices.Sorted(maps.Keys(c.pushed)) {
 		fmt.Fprintf(&text, "%s %d\n", name, c.pushed[name].UnixMilli())
 	}
 	return text.Bytes()
@@ -149,7 +104,7 @@ func (c *Catalogue) text() []byte {
 
 // readPushed reads the server's file.
 func (c *Catalogue) readPushed() error {
-	text, err := regular.Read(c.path)
+	text, err := regular.Read(c.Path)
 	if errors.Is(err, os.ErrNotExist) {
 		return nil
 	}
@@ -163,7 +118,7 @@ func (c *Catalogue) readPushed() error {
 }
 
 func read(path string) (map[string]string, error) {
-	lines, err := lists.Read(path)
+	lines, err := configfile.Read(path)
 	texts := map[string]string{}
 	for _, words := range lines {
 		texts[words[0]] = strings.Join(words[1:], " ")
@@ -180,7 +135,7 @@ func Describe(folder, tenant, text string) error {
 	case len(text) > longest || !utf8.ValidString(text) || strings.IndexFunc(text, isUnseen) >= 0:
 		return fmt.Errorf("a description has at most %d bytes, in one line of UTF-8", longest)
 	}
-	return lists.Change(filepath.Join(folder, FileName), func(lines []string) (left []string, err error) {
+	return configfile.Change(filepath.Join(folder, FileName), func(lines []string) (left []string, err error) {
 		for _, line := range lines {
 			if words := strings.Fields(line); len(words) == 0 || words[0] != tenant {
 				left = append(left, line)
@@ -196,10 +151,4 @@ func Describe(folder, tenant, text string) error {
 func isUnseen(r rune) bool { return !unicode.IsGraphic(r) }
 
 // Rows gives the lines of a folder's descriptions.
-func Rows(folder string) (rows []string, err error) {
-	lines, err := lists.Read(filepath.Join(folder, FileName))
-	for _, words := range lines {
-		rows = append(rows, strings.Join(words, " "))
-	}
-	return rows, err
-}
+func Rows(folder string) ([]string, error) { return configfile.Rows(filepath.Join(folder, FileName)) }

@@ -77,12 +77,12 @@ func TestADamagedListOfPushesHasNone(t *testing.T) {
 func TestPushesThatCannotBeWritten(t *testing.T) {
 	folder := t.TempDir()
 	c := load(t, folder)
-	if err := os.Mkdir(c.path, 0o700); err != nil {
+	if err := os.Mkdir(c.Path, 0o700); err != nil {
 		t.Fatal(err)
 	}
 	c.Note("a")
 	c.Save()
-	if err := os.Remove(c.path); err != nil {
+	if err := os.Remove(c.Path); err != nil {
 		t.Fatal(err)
 	}
 	if c.Save(); load(t, folder).Pushed("a").IsZero() {

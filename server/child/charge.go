@@ -48,14 +48,6 @@ func InRoom(ctx context.Context, bytes int64) context.Context {
 	return context.WithValue(ctx, roomKey{}, bytes)
 }
 
-// roomOf gives the room of a context, which is without end where it has none.
-func roomOf(ctx context.Context) int64 {
-	if room, has := ctx.Value(roomKey{}).(int64); has {
-		return room
-	}
-	return math.MaxInt64
-}
-
 // longestKey is the key, among the values of a context, of the longest reply that is taken.
 type longestKey struct{}
 
@@ -64,10 +56,10 @@ func Longest(ctx context.Context, bytes int64) context.Context {
 	return context.WithValue(ctx, longestKey{}, bytes)
 }
 
-// longestOf gives the longest reply that a context takes.
-func longestOf(ctx context.Context) int64 {
-	if longest, has := ctx.Value(longestKey{}).(int64); has {
-		return longest
+// boundOf gives what a context says under one of these keys, which is without end where it says nothing.
+func boundOf(ctx context.Context, key any) int64 {
+	if bound, has := ctx.Value(key).(int64); has {
+		return bound
 	}
 	return math.MaxInt64
 }

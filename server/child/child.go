@@ -216,7 +216,7 @@ func (p *Process) Send(ctx context.Context, class Class, steps ...frames.Step) (
 		size += step.Size()
 	}
 	b := &Batch{frames: make([]byte, 0, size), count: len(steps), class: class, charge: chargeOf(ctx), measure: measureOf(ctx),
-		room: roomOf(ctx), longest: longestOf(ctx), done: make(chan struct{})}
+		room: boundOf(ctx, roomKey{}), longest: boundOf(ctx, longestKey{}), done: make(chan struct{})}
 	for _, step := range steps {
 		b.frames = step.AppendTo(b.frames)
 	}

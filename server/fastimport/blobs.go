@@ -8,7 +8,7 @@ import (
 
 	"gitpoold/fsck"
 	"gitpoold/pack"
-	"gitpoold/tenants"
+	"gitpoold/plumbing"
 )
 
 // heldBlob is how much of a blob is held while it passes. A larger one that speaks of submodules counts as one that cannot be a .gitmodules.
@@ -45,9 +45,7 @@ func (p *passing) take(part []byte) {
 	p.size += int64(len(part))
 	for len(part) > 0 {
 		count := heldBlob - len(p.head)
-		if count > len(part) {
-			count = len(part)
-		}
+		count = min(count, len(part))
 		p.head, part = append(p.head, part[:count]...), part[count:]
 		if len(p.head) == heldBlob && p.size > heldBlob {
 			p.turnPage()
@@ -76,7 +74,7 @@ func (p *passing) measureLines(part []byte) {
 }
 
 // end tells as which of the files that git reads by itself the blob is refused, and its name, which is zero where that is not known.
-func (p *passing) end(rules fsck.Rules) (bad fsck.Special, name tenants.Name) {
+func (p *passing) end(rules fsck.Rules) (bad fsck.Special, name plumbing.Name) {
 	isWhole := p.size <= heldBlob
 	if p.hasWord = p.hasWord || hasWord(p.head); p.hasWord && (!isWhole || isBad(rules, p.head)) {
 		bad |= fsck.Modules
@@ -87,7 +85,7 @@ func (p *passing) end(rules fsck.Rules) (bad fsck.Special, name tenants.Name) {
 	switch bad &= rules.Refusable(); {
 	case bad == 0:
 	case isWhole:
-		name = pack.NameOf(tenants.Blob, p.head)
+		name = pack.NameOf(plumbing.Blob, p.head)
 	case p.digest != nil:
 		p.digest.Sum(name[:0])
 	}
@@ -95,7 +93,7 @@ func (p *passing) end(rules fsck.Rules) (bad fsck.Special, name tenants.Name) {
 }
 
 func isBad(rules fsck.Rules, contents []byte) bool {
-	return fsck.Fault(rules.Special(tenants.Object{Kind: tenants.Blob, Contents: contents}, fsck.Modules)) != nil
+	return fsck.Fault(rules.Special(plumbing.Object{Kind: plumbing.Blob, Contents: contents}, fsck.Modules)) != nil
 }
 
 // hasWord looks for the word by its rarest letter.
@@ -120,13 +118,13 @@ const mostBad = 1 << 16
 // badBlobs are blobs that cannot be a file that git reads.
 type badBlobs struct {
 	marks map[uint64]struct{}
-	names map[tenants.Name]struct{}
+	names map[plumbing.Name]struct{}
 }
 
 // add is false where there are too many.
-func (b *badBlobs) add(mark uint64, name tenants.Name) bool {
+func (b *badBlobs) add(mark uint64, name plumbing.Name) bool {
 	if b.marks == nil {
-		b.marks, b.names = map[uint64]struct{}{}, map[tenants.Name]struct{}{}
+		b.marks, b.names = map[uint64]struct{}{}, map[plumbing.Name]struct{}{}
 	}
 	if len(b.marks) >= mostBad || len(b.names) >= mostBad {
 		return false
@@ -140,7 +138,7 @@ func (b *badBlobs) add(mark uint64, name tenants.Name) bool {
 	return true
 }
 
-func (b *badBlobs) has(mark uint64, name tenants.Name, isName bool) bool {
+func (b *badBlobs) has(mark uint64, name plumbing.Name, isName bool) bool {
 	_, isMarked := b.marks[mark]
 	_, isNamed := b.names[name]
 	return mark > 0 && isMarked || isName && isNamed

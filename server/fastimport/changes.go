@@ -6,7 +6,7 @@ import (
 	"errors"
 
 	"gitpoold/fsck"
-	"gitpoold/tenants"
+	"gitpoold/plumbing"
 )
 
 // takeModify judges `M <mode> <dataref> <path>`.
@@ -18,12 +18,12 @@ func (j *judge) takeModify(rest []byte) error {
 		return nil
 	}
 	j.isInline = string(reference) == "inline"
-	special, err := j.takePath(path, string(mode) == modeLink)
+	special, err := j.takePath(path, string(mode) == plumbing.ModeLink)
 	if j.special = special; err != nil {
 		return err
 	}
 	switch {
-	case string(mode) == modeGitlink:
+	case string(mode) == plumbing.ModeGitlink:
 		return j.fsckGitlink(special, reference)
 	case special == 0:
 		return nil
@@ -39,7 +39,7 @@ func (j *judge) takeModify(rest []byte) error {
 func (j *judge) takePath(path []byte, isLink bool) (special fsck.Special, err error) {
 	for {
 		name, rest, hasMore := bytes.Cut(path, []byte("/"))
-		special, found := j.rules.Name(name, isLink && !hasMore)
+		special, found := j.rules.Name(string(name), isLink && !hasMore)
 		err := judged("a tree", found)
 		if err == nil && hasMore {
 			err = j.takeDirectory(special)
@@ -53,11 +53,11 @@ func (j *judge) takePath(path []byte, isLink bool) (special fsck.Special, err er
 
 // takeDirectory judges a directory where git reads a file by itself.
 func (j *judge) takeDirectory(special fsck.Special) error {
-	return judged("a tree", j.rules.Special(tenants.Object{Kind: tenants.Tree}, special))
+	return judged("a tree", j.rules.Special(plumbing.Object{Kind: plumbing.Tree}, special))
 }
 
 func (j *judge) fsckGitlink(special fsck.Special, reference []byte) error {
-	name, isName := tenants.ParseName(string(reference))
+	name, isName := plumbing.ParseName(string(reference))
 	switch {
 	case isName && name.IsZero():
 		return judged("a tree", j.rules.Gitlink(true))
@@ -67,12 +67,12 @@ func (j *judge) fsckGitlink(special fsck.Special, reference []byte) error {
 		j.asked = &stored{name, special}
 		return nil
 	}
-	return judged("a tree", j.rules.Special(tenants.Object{Kind: tenants.Commit}, special))
+	return judged("a tree", j.rules.Special(plumbing.Object{Kind: plumbing.Commit}, special))
 }
 
 // fsckFile judges a blob that a mark or a name tells.
 func (j *judge) fsckFile(special fsck.Special, reference []byte) error {
-	name, isName := tenants.ParseName(string(reference))
+	name, isName := plumbing.ParseName(string(reference))
 	mark := markOf(reference)
 	for _, it := range []struct {
 		special fsck.Special
@@ -104,7 +104,7 @@ func (j *judge) settle(ctx context.Context) error {
 	asked := *j.asked
 	j.asked = nil
 	object, err := j.look(ctx, asked.name)
-	if errors.Is(err, tenants.ErrMissing) {
+	if errors.Is(err, plumbing.ErrMissing) {
 		if j.isUnsure && asked.special&fsck.Modules != 0 {
 			return badFile(fsck.Modules)
 		}
@@ -128,7 +128,7 @@ func (j *judge) takeCopy(rest []byte) error {
 		return err
 	}
 	special &= j.rules.Refusable()
-	was, _ := j.rules.Name(source[bytes.LastIndexByte(source, '/')+1:], false)
+	was, _ := j.rules.Name(string(source[bytes.LastIndexByte(source, '/')+1:]), false)
 	if special&^was != 0 {
 		return refuse("a file that git reads, copied from another name: name its contents by `M`")
 	}

@@ -11,7 +11,7 @@ import (
 	"fmt"
 
 	"gitpoold/fsck"
-	"gitpoold/tenants"
+	"gitpoold/plumbing"
 )
 
 // Refused is what a push would be refused for too, as a sentence for the client.
@@ -42,8 +42,8 @@ type Reader struct {
 	isEnded bool
 }
 
-// Look gives an object of the repository at its last checkpoint, or tenants.ErrMissing.
-type Look func(context.Context, tenants.Name) (tenants.Object, error)
+// Look gives an object of the repository at its last checkpoint, or plumbing.ErrMissing.
+type Look func(context.Context, plumbing.Name) (plumbing.Object, error)
 
 // New gives a reader that judges by these rules. It looks for objects that the stream has not, and puts where git reads a file.
 func New(rules fsck.Rules, look Look) *Reader {

@@ -11,7 +11,7 @@ import (
 
 	"gitpoold/fsck"
 	"gitpoold/pack"
-	"gitpoold/tenants"
+	"gitpoold/plumbing"
 )
 
 var all = Part{Bytes: 1 << 20, Heavy: 1 << 20}
@@ -20,18 +20,18 @@ var all = Part{Bytes: 1 << 20, Heavy: 1 << 20}
 const harmful = "[submodule \"../x\"]\n\turl = x\n"
 
 // repository is what was there before the streams of the tests.
-type repository map[tenants.Name]tenants.Object
+type repository map[plumbing.Name]plumbing.Object
 
-func (r repository) look(_ context.Context, name tenants.Name) (tenants.Object, error) {
+func (r repository) look(_ context.Context, name plumbing.Name) (plumbing.Object, error) {
 	if object, has := r[name]; has {
 		return object, nil
 	}
-	return tenants.Object{}, tenants.ErrMissing
+	return plumbing.Object{}, plumbing.ErrMissing
 }
 
-func (r repository) add(kind tenants.Kind, contents string) string {
+func (r repository) add(kind plumbing.Kind, contents string) string {
 	name := pack.NameOf(kind, []byte(contents))
-	r[name] = tenants.Object{Name: name, Kind: kind, Contents: []byte(contents)}
+	r[name] = plumbing.Object{Name: name, Kind: kind, Contents: []byte(contents)}
 	return name.String()
 }
 
@@ -119,8 +119,8 @@ var bad = []string{
 	blobOf(1, harmful) + head + "M 100644 :01 |.gitmodules\n",
 	blobOf(1, harmful) + "commit refs/heads/a\nmark :1\ncommitter a <b> 1 +0000\ndata 0\n\nM 100644 :1 |.gitmodules\n",
 	"blob\nmark :1\ndata <<E\n" + harmful + "E\n" + head + "M 100644 :1 |.gitmodules\n",
-	"blob\n" + data(harmful) + head + "M 100644 " + pack.NameOf(tenants.Blob, []byte(harmful)).String() + " |.gitmodules\n",
-	head + "M 100644 inline x\n" + data(harmful) + "M 755 " + pack.NameOf(tenants.Blob, []byte(harmful)).String() + " |.gitmodules\n",
+	"blob\n" + data(harmful) + head + "M 100644 " + pack.NameOf(plumbing.Blob, []byte(harmful)).String() + " |.gitmodules\n",
+	head + "M 100644 inline x\n" + data(harmful) + "M 755 " + pack.NameOf(plumbing.Blob, []byte(harmful)).String() + " |.gitmodules\n",
 	blobOf(1, strings.Repeat("x\n", heldBlob/2-2)+"[SubModule \"x\"]\n"+strings.Repeat("x\n", heldBlob)) + head + "M 100644 :1 |.gitmodules\n",
 	blobOf(1, "x\n"+long+"\ny\n") + head + "M 100644 :1 |.gitattributes\n",
 	"commit refs/heads/main\n|committer a <b> 01 +0000\ndata 0\n",
@@ -167,17 +167,17 @@ func step(text string) int { return 1 + len(text)/4000*200 }
 // TestStoredObjects puts what was there before where git reads a file.
 func TestStoredObjects(t *testing.T) {
 	before := repository{}
-	for name, want := range map[string]bool{before.add(tenants.Blob, harmful): true, before.add(tenants.Blob, "fine"): false,
-		before.add(tenants.Commit, "tree"): true, strings.Repeat("2", 40): false} {
-		for _, mode := range []string{"100644", modeGitlink} {
+	for name, want := range map[string]bool{before.add(plumbing.Blob, harmful): true, before.add(plumbing.Blob, "fine"): false,
+		before.add(plumbing.Commit, "tree"): true, strings.Repeat("2", 40): false} {
+		for _, mode := range []string{"100644", plumbing.ModeGitlink} {
 			_, _, err := read(before, []byte(head+"M "+mode+" "+name+" .gitmodules\n"), 7, all)
-			if isRefused := mode == modeGitlink && want || want; (err != nil) != isRefused {
+			if isRefused := mode == plumbing.ModeGitlink && want || want; (err != nil) != isRefused {
 				t.Errorf("%s %s: %v", mode, name, err)
 			}
 		}
 	}
 	broken := errors.New("broken")
-	r := New(fsck.Rules{}, func(context.Context, tenants.Name) (tenants.Object, error) { return tenants.Object{}, broken })
+	r := New(fsck.Rules{}, func(context.Context, plumbing.Name) (plumbing.Object, error) { return plumbing.Object{}, broken })
 	if _, err := r.Next(context.Background(), []byte(head+"M 644 "+strings.Repeat("2", 40)+" .gitmodules\n"), all); err != broken {
 		t.Error(err)
 	}
@@ -186,7 +186,7 @@ func TestStoredObjects(t *testing.T) {
 // TestUnnamed has a large blob with a delimiter, whose name nobody knows before it is over.
 func TestUnnamed(t *testing.T) {
 	text := strings.Repeat("x\n", heldBlob) + harmful
-	name := pack.NameOf(tenants.Blob, []byte(text)).String()
+	name := pack.NameOf(plumbing.Blob, []byte(text)).String()
 	for at, want := range map[string]bool{".gitmodules": true, "x": false} {
 		_, _, err := read(repository{}, []byte("blob\ndata <<E\n"+text+"E\n"+head+"M 644 "+name+" "+at+"\n"), 1000, all)
 		if (err != nil) != want {
@@ -259,7 +259,7 @@ func TestTooManyModules(t *testing.T) {
 
 // fill remembers as many blobs as may be.
 func fill(bad *badBlobs) {
-	for mark := uint64(1); bad.add(mark, tenants.Name{byte(mark), byte(mark >> 8), byte(mark >> 16), 1}); mark++ {
+	for mark := uint64(1); bad.add(mark, plumbing.Name{byte(mark), byte(mark >> 8), byte(mark >> 16), 1}); mark++ {
 	}
 }
 

@@ -6,7 +6,7 @@ import (
 
 	"gitpoold/fsck"
 	"gitpoold/objects"
-	"gitpoold/tenants"
+	"gitpoold/plumbing"
 )
 
 // A command is what the lines and the data that follow belong to.
@@ -23,16 +23,12 @@ const (
 var commands = map[string]command{"blob": blob, "commit": commit, "tag": tag, "reset": other, "alias": other, "checkpoint": other, "progress": other,
 	"get-mark": other, "feature": other, "option": other, "done": other}
 
-// The modes of a change that matter here.
-const (
-	modeTree    = "040000"
-	modeLink    = "120000"
-	modeGitlink = "160000"
-)
+// modeTree is the mode of a directory, as a change says it.
+const modeTree = "040000"
 
 // stored is an object that a line names, and the files that git takes it for.
 type stored struct {
-	name    tenants.Name
+	name    plumbing.Name
 	special fsck.Special
 }
 
@@ -169,7 +165,7 @@ func (j *judge) endData() error {
 }
 
 // remember keeps what a blob cannot be, until a file names it.
-func (j *judge) remember(bad fsck.Special, mark uint64, name tenants.Name) error {
+func (j *judge) remember(bad fsck.Special, mark uint64, name plumbing.Name) error {
 	if bad&fsck.Attributes != 0 {
 		j.others.add(mark, name)
 	}

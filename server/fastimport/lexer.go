@@ -7,9 +7,6 @@ import (
 	"gitpoold/objects"
 )
 
-// longestLine is the most bytes of a line: docs/FORMATS.md.
-const longestLine = 1_048_575
-
 // lexer tells lines from data. It takes a stream in pieces that may be cut at any byte, and holds a line of which a part has come.
 type lexer struct {
 	line []byte
@@ -94,7 +91,7 @@ func (l *lexer) takeDelimited(part []byte, isWhole bool, to items) error {
 }
 
 func (l *lexer) takePart(part []byte, isWhole bool, to items) error {
-	if len(l.line)+len(part) > longestLine {
+	if len(l.line)+len(part) > objects.LongestLine {
 		l.line, l.isOver = nil, true
 		return nil
 	}

@@ -162,9 +162,7 @@ func readBytes(from *bufio.Reader, size uint64) ([]byte, error) {
 		if next == 0 {
 			next = first
 		}
-		if next > size {
-			next = size
-		}
+		next = min(next, size)
 		grown := make([]byte, next)
 		copy(grown, found)
 		if _, err := io.ReadFull(from, grown[have:]); err != nil {

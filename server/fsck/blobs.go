@@ -3,7 +3,7 @@ package fsck
 import (
 	"bytes"
 
-	"gitpoold/tenants"
+	"gitpoold/plumbing"
 )
 
 // Most of a .gitattributes file that git reads: the lines are shorter than LongestAttributesLine.
@@ -13,9 +13,9 @@ const (
 )
 
 // Special gives the messages about an object that stands where git reads a file by itself.
-func (r Rules) Special(o tenants.Object, what Special) []Finding {
+func (r Rules) Special(o plumbing.Object, what Special) []Finding {
 	j := &judge{rules: r}
-	isBlob := o.Kind == tenants.Blob
+	isBlob := o.Kind == plumbing.Blob
 	switch {
 	case what&Modules == 0:
 	case isBlob:

@@ -1,7 +1,8 @@
 package fsck
 
 import (
-	"bytes"
+	"slices"
+	"strings"
 	"unicode/utf8"
 )
 
@@ -18,8 +19,8 @@ var (
 )
 
 // isPlain tells whether no system takes a name for another one: it has neither a dot in front, nor a byte that a disguise needs.
-func isPlain(name []byte) bool {
-	for _, b := range name {
+func isPlain(name string) bool {
+	for _, b := range []byte(name) {
 		if b == '~' || b == '\\' || b >= 0x80 {
 			return false
 		}
@@ -28,36 +29,20 @@ func isPlain(name []byte) bool {
 }
 
 // isDotGit tells whether a name is .git, or is taken for it by HFS+ or NTFS, which also ends names at backslashes.
-func isDotGit(name []byte) bool {
-	if isHFS(name, "git") {
-		return true
-	}
-	for _, part := range afterBackslashes(name) {
-		if isNTFSDotGit(part) {
-			return true
-		}
-	}
-	return false
+func isDotGit(name string) bool {
+	return isHFS(name, "git") || slices.ContainsFunc(afterBackslashes(name), isNTFSDotGit)
 }
 
-func isModules(name []byte) bool {
-	if isHFS(name, modulesFile.name) {
-		return true
-	}
-	for _, part := range afterBackslashes(name) {
-		if isNTFS(part, modulesFile) {
-			return true
-		}
-	}
-	return false
+func isModules(name string) bool {
+	return isHFS(name, modulesFile.name) || slices.ContainsFunc(afterBackslashes(name), func(part string) bool { return isNTFS(part, modulesFile) })
 }
 
-func isDotFile(name []byte, file dotFile) bool { return isHFS(name, file.name) || isNTFS(name, file) }
+func isDotFile(name string, file dotFile) bool { return isHFS(name, file.name) || isNTFS(name, file) }
 
 // afterBackslashes gives the whole name, and what stands after each backslash.
-func afterBackslashes(name []byte) (parts [][]byte) {
+func afterBackslashes(name string) (parts []string) {
 	parts = append(parts, name)
-	for at, b := range name {
+	for at, b := range []byte(name) {
 		if b == '\\' {
 			parts = append(parts, name[at+1:])
 		}
@@ -65,7 +50,7 @@ func afterBackslashes(name []byte) (parts [][]byte) {
 	return parts
 }
 
-func isNTFSDotGit(name []byte) bool {
+func isNTFSDotGit(name string) bool {
 	for _, front := range []string{".git", "git~1"} {
 		if hasFold(name, front) && endsNTFS(name[len(front):], `\/:`) {
 			return true
@@ -74,14 +59,14 @@ func isNTFSDotGit(name []byte) bool {
 	return false
 }
 
-func hasFold(name []byte, front string) bool {
-	return len(name) >= len(front) && bytes.EqualFold(name[:len(front)], []byte(front))
+func hasFold(name string, front string) bool {
+	return len(name) >= len(front) && strings.EqualFold(name[:len(front)], front)
 }
 
 // endsNTFS tells whether NTFS drops the rest of a name: dots and spaces up to its end, or up to one of these bytes.
-func endsNTFS(rest []byte, stops string) bool {
-	for _, b := range rest {
-		if bytes.IndexByte([]byte(stops), b) >= 0 {
+func endsNTFS(rest, stops string) bool {
+	for _, b := range []byte(rest) {
+		if strings.IndexByte(stops, b) >= 0 {
 			return true
 		}
 		if b != '.' && b != ' ' {
@@ -93,7 +78,7 @@ func endsNTFS(rest []byte, stops string) bool {
 
 // isNTFS tells whether NTFS takes a name for a file: by its long name, by its short name, or by the short name that is made of a
 // digest where the short names run out.
-func isNTFS(name []byte, file dotFile) bool {
+func isNTFS(name string, file dotFile) bool {
 	if hasFold(name, "."+file.name) {
 		return endsNTFS(name[1+len(file.name):], ":")
 	}
@@ -104,15 +89,15 @@ func isNTFS(name []byte, file dotFile) bool {
 }
 
 // isFallback tells whether a name begins with some of the letters of a short name, a tilde and digits, eight bytes in all.
-func isFallback(name []byte, short string) bool {
+func isFallback(name string, short string) bool {
 	if len(name) < 8 {
 		return false
 	}
-	tilde := bytes.IndexByte(name[:7], '~')
+	tilde := strings.IndexByte(name[:7], '~')
 	if tilde < 0 || !hasFold(name, short[:tilde]) || name[tilde+1] < '1' || name[tilde+1] > '9' {
 		return false
 	}
-	for _, b := range name[tilde+2 : 8] {
+	for _, b := range []byte(name[tilde+2 : 8]) {
 		if b < '0' || b > '9' {
 			return false
 		}
@@ -122,7 +107,7 @@ func isFallback(name []byte, short string) bool {
 
 // isHFS tells whether HFS+ takes a name for a dot and a word: it ignores case and some code points. Bytes that are no UTF-8 end a
 // name, as in git.
-func isHFS(name []byte, word string) bool {
+func isHFS(name string, word string) bool {
 	for _, want := range "." + word {
 		var r rune
 		r, name = nextHFS(name)
@@ -135,18 +120,18 @@ func isHFS(name []byte, word string) bool {
 }
 
 // nextHFS gives the next code point that HFS+ does not ignore, or 0 at the end.
-func nextHFS(name []byte) (rune, []byte) {
+func nextHFS(name string) (rune, string) {
 	for len(name) > 0 {
-		r, size := utf8.DecodeRune(name)
+		r, size := utf8.DecodeRuneInString(name)
 		if r == utf8.RuneError && size <= 1 {
-			return 0, nil
+			return 0, ""
 		}
 		name = name[size:]
 		if !isIgnored(r) {
 			return r, name
 		}
 	}
-	return 0, nil
+	return 0, ""
 }
 
 func isIgnored(r rune) bool {

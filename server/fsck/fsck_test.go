@@ -14,17 +14,17 @@ import (
 
 	"gitpoold/fsck"
 	"gitpoold/pack"
-	"gitpoold/tenants"
+	"gitpoold/plumbing"
 )
 
 // sample is one object: its kind, its contents, and for a blob the file that git takes it for.
 type sample struct {
-	kind     tenants.Kind
+	kind     plumbing.Kind
 	contents string
 	special  fsck.Special
 }
 
-func (s sample) name() tenants.Name { return pack.NameOf(s.kind, []byte(s.contents)) }
+func (s sample) name() plumbing.Name { return pack.NameOf(s.kind, []byte(s.contents)) }
 
 // byteOrderMark may begin a .gitmodules file in a work tree. Git's fsck cannot read a blob that begins with it, so here it is read as in a work tree.
 const byteOrderMark = "\xef\xbb\xbf"
@@ -38,7 +38,7 @@ const (
 
 func commits(lines ...string) (samples []sample) {
 	for _, it := range lines {
-		samples = append(samples, sample{kind: tenants.Commit, contents: it})
+		samples = append(samples, sample{kind: plumbing.Commit, contents: it})
 	}
 	return samples
 }
@@ -51,7 +51,7 @@ func idents() (samples []sample) {
 		"A <a@b> 9223372036854775807 +0000", "A <a@b> 9223372036854775808 +0000", "A <a@b> 99999999999999999999999 +0000", "A <a@b> 18446744073709551615 +0000",
 		"A <> 1 +0000", "A <a@b> 1 +9999", "A <a@b> 1 -0000", "", "\xff <\xfe> 1 +0000"} {
 		samples = append(samples, commits(header+"author "+it+"\ncommitter "+ident+"\n\nm", header+"author "+ident+"\ncommitter "+it+"\n\nm")...)
-		samples = append(samples, sample{kind: tenants.Tag, contents: target + "tag v\ntagger " + it + "\n\nm"})
+		samples = append(samples, sample{kind: plumbing.Tag, contents: target + "tag v\ntagger " + it + "\n\nm"})
 	}
 	return samples
 }
@@ -69,7 +69,7 @@ func tags() (samples []sample) {
 	for _, it := range []string{target + "tag v1\n" + tagger + "\nm", target + "tag v1\n\nm", target + "tag v1\n" + tagger + "more x\n\nm", target + "tag a b\n" + tagger + "\nm",
 		target + "tag \n" + tagger + "\nm", target + "tag v..1\n" + tagger + "\nm", target + "tag v1\n" + tagger, target + "tag v1\n" + tagger + "\nm\x00", target + "tag v\x001\n" + tagger + "\nm",
 		strings.Replace(target, "commit", "tree", 1) + "tag v1\n" + tagger + "\nm", target + "tag v1\ntagger A <a@b>\n\nm"} {
-		samples = append(samples, sample{kind: tenants.Tag, contents: it})
+		samples = append(samples, sample{kind: plumbing.Tag, contents: it})
 	}
 	return samples
 }
@@ -87,7 +87,7 @@ func trees() (samples []sample) {
 		one("120000", "MABA30~1"), one("120000", "a\\.gitmodules"), one("100644", "b") + one("100644", "a"), one("100644", "a") + one("100644", "a"), one("100644", "a") + one("40000", "a"),
 		one("100644", "a") + one("100644", "a.c") + one("40000", "a"), one("100644", "a") + one("100644", "a-b") + one("100644", "a-b-c") + one("40000", "a-b") + one("40000", "a"),
 		one("40000", "a") + one("100644", "a.c"), one("100644", "a") + one("100644", "a-b") + one("100644", "a0") + one("40000", "a"), one("100644", "a")[:20], "100644 a", "x00644 a\x00"} {
-		samples = append(samples, sample{kind: tenants.Tree, contents: it})
+		samples = append(samples, sample{kind: plumbing.Tree, contents: it})
 	}
 	return samples
 }
@@ -95,10 +95,10 @@ func trees() (samples []sample) {
 func blobs() (samples []sample) {
 	for _, it := range []string{"[submodule \"a\"]\n\turl = x\n", "[submodule \"..\"]\n", "[submodule \"a\"]\n\turl = -x\n", "[submodule \"a\"]\n\tpath = -x\n", "[submodule \"a\"]\n\tupdate = !x\n",
 		"[submodule \"a\"]\n\turl = ../../:x\n", "[submodule \"a\n", "[x", "\xef\xbb\xbf[submodule \"b\"]\nurl=--x\n", "[submodule \"a/../b\"]\nurl = \"http://h%0ay\"\n"} {
-		samples = append(samples, sample{tenants.Blob, it, fsck.Modules})
+		samples = append(samples, sample{plumbing.Blob, it, fsck.Modules})
 	}
 	for _, it := range []string{"* text\n", strings.Repeat("a", 2047) + "\n", strings.Repeat("a", 2048) + "\n", "x\n" + strings.Repeat("b", 3000)} {
-		samples = append(samples, sample{tenants.Blob, it, fsck.Attributes})
+		samples = append(samples, sample{plumbing.Blob, it, fsck.Attributes})
 	}
 	return samples
 }
@@ -113,8 +113,8 @@ func corpus(t *testing.T) (samples []sample) {
 	if err != nil {
 		t.Fatal(err)
 	}
-	kinds := map[string]sample{"commit": {kind: tenants.Commit}, "tag": {kind: tenants.Tag}, "tree": {kind: tenants.Tree},
-		"modules": {kind: tenants.Blob, special: fsck.Modules}, "attributes": {kind: tenants.Blob, special: fsck.Attributes}}
+	kinds := map[string]sample{"commit": {kind: plumbing.Commit}, "tag": {kind: plumbing.Tag}, "tree": {kind: plumbing.Tree},
+		"modules": {kind: plumbing.Blob, special: fsck.Modules}, "attributes": {kind: plumbing.Blob, special: fsck.Attributes}}
 	for _, it := range read {
 		made, isObject := kinds[it.Kind]
 		if !isObject {
@@ -135,7 +135,7 @@ func mutants(from []sample, count int) (samples []sample) {
 	random := rand.New(rand.NewSource(7))
 	for len(samples) < count {
 		it := from[random.Intn(len(from))]
-		if it.kind == tenants.Blob || it.contents == "" {
+		if it.kind == plumbing.Blob || it.contents == "" {
 			continue
 		}
 		it.contents = mutated(random, it.contents)
@@ -182,14 +182,14 @@ func latin(text string) string {
 func judged(rules fsck.Rules, s sample) (said []string) {
 	var found []fsck.Finding
 	switch s.kind {
-	case tenants.Commit:
+	case plumbing.Commit:
 		found = rules.Commit([]byte(s.contents))
-	case tenants.Tag:
+	case plumbing.Tag:
 		found = rules.Tag([]byte(s.contents), isRefName)
-	case tenants.Tree:
-		found = rules.Tree([]byte(s.contents), func(tenants.Name, fsck.Special) {})
+	case plumbing.Tree:
+		found = rules.Tree([]byte(s.contents), func(plumbing.Name, fsck.Special) {})
 	default:
-		found = rules.Special(tenants.Object{Kind: s.kind, Contents: []byte(s.contents)}, s.special)
+		found = rules.Special(plumbing.Object{Kind: s.kind, Contents: []byte(s.contents)}, s.special)
 	}
 	for _, it := range found {
 		level := "warning"
@@ -212,7 +212,7 @@ func room(t *testing.T, samples []sample) string {
 			t.Fatal(err)
 		}
 		paths[s.kind.String()] += path + "\n"
-		if s.kind == tenants.Blob {
+		if s.kind == plumbing.Blob {
 			special += "100644 blob " + s.name().String() + "\t" + map[fsck.Special]string{fsck.Modules: ".gitmodules", fsck.Attributes: ".gitattributes"}[s.special] + "\n\n"
 		}
 	}
@@ -279,7 +279,7 @@ func compare(t *testing.T, folder string, all []sample, rules fsck.Rules, settin
 	count := 0
 	for _, s := range all {
 		name := s.name().String()
-		if broken[name] || s.kind == tenants.Blob && strings.HasPrefix(s.contents, byteOrderMark) {
+		if broken[name] || s.kind == plumbing.Blob && strings.HasPrefix(s.contents, byteOrderMark) {
 			continue
 		}
 		count++

@@ -1,6 +1,9 @@
 package fsck
 
-import "bytes"
+import (
+	"bytes"
+	"gitpoold/plumbing"
+)
 
 // Tag gives the messages about a tag's contents. `isRefName` tells whether a text is the name of a ref: git-check-ref-format(1).
 func (r Rules) Tag(contents []byte, isRefName func(ref string) bool) []Finding {
@@ -35,7 +38,7 @@ func (j *judge) tag(contents []byte, isRefName func(ref string) bool) {
 		j.report(MissingTag, "invalid format - unexpected end after 'type' line")
 		return
 	}
-	if !isRefName("refs/tags/"+string(name)) && j.report(BadTagName, "invalid 'tag' name: %s", name) {
+	if !isRefName(plumbing.Tags+string(name)) && j.report(BadTagName, "invalid 'tag' name: %s", name) {
 		return
 	}
 	j.tagger(rest)

@@ -123,7 +123,7 @@ func (r *running) reason(ctx context.Context, err, fed error) error {
 		return nil
 	case ctx.Err() != nil:
 		return ctx.Err()
-	case fed != nil && fed != errUnread:
+	case fed != nil && !errors.Is(fed, errUnread):
 		return fed
 	}
 	if words := r.said.words(); words != "" {

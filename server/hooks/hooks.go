@@ -9,12 +9,13 @@ package hooks
 import (
 	"context"
 	"path/filepath"
+	"slices"
 	"sync"
 	"time"
 
-	"gitpoold/lists"
+	"gitpoold/configfile"
+	"gitpoold/fair"
 	"gitpoold/metrics"
-	"gitpoold/turns"
 	"gitpoold/webhooks"
 )
 
@@ -53,7 +54,7 @@ const (
 
 // Hooks tells the hooks of a folder. Its methods may be called by many goroutines at once.
 type Hooks struct {
-	lines   *lists.Followed[[]line]
+	lines   *configfile.Followed[[]line]
 	within  func() time.Duration
 	tell    func(format string, values ...any)
 	metrics *metrics.Metrics
@@ -68,7 +69,7 @@ type Hooks struct {
 	isClosed bool
 
 	// judging are the places of hooks that judge pushes.
-	judging *turns.Places
+	judging *fair.Semaphore
 }
 
 // queue is what waits for one hook, which is told one push after another.
@@ -81,12 +82,12 @@ type queue struct {
 // Load reads the hooks of a folder. `within` gives the time that a hook has for one push; `tell` gets lines for the operator.
 func Load(folder string, within func() time.Duration, tell func(string, ...any), m *metrics.Metrics) (*Hooks, error) {
 	path := filepath.Join(folder, "hooks")
-	followed, err := lists.Follow(func() ([]line, error) { return read(path) }, tell, path)
+	followed, err := configfile.Follow(func() ([]line, error) { return read(path) }, tell, path)
 	if err != nil {
 		return nil, err
 	}
 	h := &Hooks{lines: followed, within: within, tell: tell, metrics: m, queues: map[string]*queue{},
-		judging: turns.New(judgesAtOnce)}
+		judging: fair.New(judgesAtOnce)}
 	h.Addresses, err = webhooks.Open(webhooks.Config{Folder: folder, Within: within, IsWanted: h.hasPlace, Tell: tell, Metrics: m})
 	if err != nil {
 		return nil, err
@@ -116,12 +117,7 @@ func (h *Hooks) Start() { h.Addresses.Start() }
 
 // hasPlace tells whether a hook is in the list.
 func (h *Hooks) hasPlace(where string) bool {
-	for _, it := range h.lines.Get() {
-		if it.where == where {
-			return true
-		}
-	}
-	return false
+	return slices.ContainsFunc(h.lines.Get(), func(it line) bool { return it.where == where })
 }
 
 // Waiting is how many pushes hooks are still to be told of.
@@ -185,7 +181,7 @@ func (h *Hooks) work(where string, q *queue) {
 		began := time.Now()
 		err := h.deliver(where, p)
 		h.metrics.Observe("gitpoold_hook_seconds", "The time of hooks.", time.Since(began).Seconds())
-		if h.count(resultOf(err)); err != nil {
+		if h.count(webhooks.ResultOf(err)); err != nil {
 			h.tell("hook %s was not told of a push to %s: %v", shown(where), p.Tenant, err)
 		}
 		h.leave(q)
@@ -221,9 +217,9 @@ func (h *Hooks) deliver(where string, p Push) error {
 	err := run(ctx, where, p)
 	switch {
 	case err != nil && h.ctx.Err() != nil:
-		return errStopped
+		return webhooks.ErrStopped
 	case err != nil && ctx.Err() != nil:
-		return errLate
+		return webhooks.ErrLate
 	}
 	return err
 }

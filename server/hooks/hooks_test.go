@@ -17,7 +17,7 @@ import (
 	"time"
 
 	"gitpoold/await"
-	"gitpoold/lists"
+	"gitpoold/configfile"
 	"gitpoold/metrics"
 	"gitpoold/webhooks"
 )
@@ -388,7 +388,7 @@ func TestHooksAreChangedWhileTheServerRuns(t *testing.T) {
 			t.Error(words)
 		}
 	}
-	if Remove(h.folder, "acme/*", hook) == nil || contents(h.folder+"/hooks") != lists.Text("# none") {
+	if Remove(h.folder, "acme/*", hook) == nil || contents(h.folder+"/hooks") != configfile.Text("# none") {
 		t.Error(contents(h.folder + "/hooks"))
 	}
 }

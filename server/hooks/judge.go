@@ -11,11 +11,11 @@ import (
 	"time"
 
 	"gitpoold/access"
-	"gitpoold/turns"
+	"gitpoold/fair"
 )
 
 // judgesAtOnce bounds how many pushes are judged by hooks at once: in all, and of one user, whose hooks may hang without keeping others.
-var judgesAtOnce = turns.Limits{Places: 64, OfKind: [2]int{64, 64}, OfOneOfIt: [2]int{4, 4}}
+var judgesAtOnce = fair.Limits{Places: 64, OfKind: [2]int{64, 64}, OfOneOfIt: [2]int{4, 4}}
 
 // MostShown is how many bytes of what the hooks of one push print its user is shown.
 const MostShown = 64 << 10
@@ -50,7 +50,6 @@ func (h *Hooks) of(tenant, kind string) (all []string) {
 type judging struct {
 	*Hooks
 	Judged
-	ctx   context.Context
 	limit time.Duration
 	mutex sync.Mutex
 	shown int
@@ -61,29 +60,23 @@ func (h *Hooks) Judge(ctx context.Context, push Judged) []string {
 	limit := h.within()
 	ctx, stop := context.WithTimeout(ctx, limit)
 	defer stop()
-	go func() {
-		select {
-		case <-h.ctx.Done():
-			stop()
-		case <-ctx.Done():
-		}
-	}()
-	j := &judging{Hooks: h, Judged: push, ctx: ctx, limit: limit}
+	defer context.AfterFunc(h.ctx, stop)()
+	j := &judging{Hooks: h, Judged: push, limit: limit}
 	reasons := make([]string, len(push.Changes))
-	leave, err := h.judging.Enter(ctx, turns.First, access.Person(push.User), push.Tenant)
+	leave, err := h.judging.Acquire(ctx, fair.First, access.Person(push.User), push.Tenant)
 	if err != nil {
 		return filled(reasons, "the hooks of this repository have as many pushes to judge as they may; try again")
 	}
 	defer leave()
 	for _, path := range h.of(push.Tenant, PreReceive) {
-		if why := j.run(PreReceive, path, push.lines()); why != "" {
+		if why := j.run(ctx, PreReceive, path, push.lines()); why != "" {
 			return filled(reasons, why)
 		}
 	}
 	for _, path := range h.of(push.Tenant, Update) {
 		for at, it := range push.Changes {
 			if reasons[at] == "" {
-				reasons[at] = j.run(Update, path, "", it.Ref, it.Old, it.New)
+				reasons[at] = j.run(ctx, Update, path, "", it.Ref, it.Old, it.New)
 			}
 		}
 	}
@@ -98,12 +91,12 @@ func filled(reasons []string, why string) []string {
 }
 
 // run runs one hook, and says why it refuses, or nothing.
-func (j *judging) run(kind, path, input string, words ...string) (why string) {
+func (j *judging) run(ctx context.Context, kind, path, input string, words ...string) (why string) {
 	began := time.Now()
-	err := j.carryOut(path, input, words)
+	err := j.carryOut(ctx, path, input, words)
 	j.metrics.Observe("gitpoold_hook_seconds", "The time of hooks.", time.Since(began).Seconds())
 	var ended *exec.ExitError
-	declines := errors.As(err, &ended) && ended.Exited() && j.ctx.Err() == nil
+	declines := errors.As(err, &ended) && ended.Exited() && ctx.Err() == nil
 	switch {
 	case err == nil:
 		j.count("ok")
@@ -115,19 +108,19 @@ func (j *judging) run(kind, path, input string, words ...string) (why string) {
 		j.count("declined")
 		return "hook declined"
 	}
-	why = j.trouble(kind, err)
+	why = j.trouble(ctx, kind, err)
 	j.tell("the %s hook %s of a push by %q to %s: %s (%v)", kind, path, j.User, j.Tenant, why, err)
 	return why
 }
 
 // trouble says what has become of a hook that has not ended by itself.
-func (j *judging) trouble(kind string, err error) string {
+func (j *judging) trouble(ctx context.Context, kind string, err error) string {
 	var ended *exec.ExitError
 	switch {
-	case j.ctx.Err() == context.DeadlineExceeded:
+	case errors.Is(ctx.Err(), context.DeadlineExceeded):
 		j.count("late")
 		return fmt.Sprintf("the %s hook took longer than %v, and was ended", kind, j.limit)
-	case j.ctx.Err() != nil:
+	case ctx.Err() != nil:
 		j.count("failed")
 		return fmt.Sprintf("the %s hook was ended with its push", kind)
 	case errors.As(err, &ended):
@@ -139,7 +132,7 @@ func (j *judging) trouble(kind string, err error) string {
 }
 
 // carryOut starts a hook in the repository of the push, and waits for it as `run` of a hook that is told.
-func (j *judging) carryOut(path, input string, words []string) error {
+func (j *judging) carryOut(ctx context.Context, path, input string, words []string) error {
 	command := exec.Command(path, words...)
 	command.Dir = j.Folder
 	command.Env = append(withoutGit(os.Environ()), j.variables()...)
@@ -154,7 +147,7 @@ func (j *judging) carryOut(path, input string, words []string) error {
 	said := make(chan struct{})
 	go func() { defer close(said); j.show(out) }()
 	go feed(in, input)
-	awaitEnd(j.ctx, command.Process.Pid)
+	awaitEnd(ctx, command.Process.Pid)
 	err = command.Wait()
 	// What it printed is in the pipe. Who has left its group may have the pipe open still.
 	_ = out.SetReadDeadline(time.Now().Add(afterEnd))

@@ -1,7 +1,6 @@
 package hooks
 
 import (
-	"errors"
 	"fmt"
 	"net/url"
 	"os"
@@ -9,7 +8,7 @@ import (
 	"strings"
 
 	"gitpoold/access"
-	"gitpoold/lists"
+	"gitpoold/configfile"
 	"gitpoold/webhooks"
 )
 
@@ -25,22 +24,6 @@ type line struct{ pattern, kind, where string }
 
 func (l line) matches(tenant string) bool { return access.Matches(l.pattern, tenant) }
 
-var (
-	errLate    = errors.New("it took longer than a hook may take")
-	errStopped = errors.New("the server stops")
-)
-
-// resultOf is how the metrics call what became of a push.
-func resultOf(err error) string {
-	switch err {
-	case nil:
-		return "ok"
-	case errLate:
-		return "late"
-	}
-	return "failed"
-}
-
 // Unread says why the list cannot be read, so that what was read before holds. It is nil where it can.
 func (h *Hooks) Unread() error {
 	if err := h.lines.Unread(); err != nil {
@@ -49,17 +32,7 @@ func (h *Hooks) Unread() error {
 	return h.Addresses.Unread()
 }
 
-func read(path string) (all []line, err error) {
-	lines, err := lists.Read(path)
-	for _, words := range lines {
-		it, err := parse(words)
-		if err != nil {
-			return nil, fmt.Errorf("%s: %w", path, err)
-		}
-		all = append(all, it)
-	}
-	return all, err
-}
+func read(path string) ([]line, error) { return configfile.Parse(path, parse) }
 
 func parse(words []string) (line, error) {
 	all := strings.Join(words, " ")
@@ -134,7 +107,7 @@ func Add(folder string, words ...string) error {
 	if err != nil {
 		return err
 	}
-	return lists.Change(filepath.Join(folder, "hooks"), func(lines []string) ([]string, error) {
+	return configfile.Change(filepath.Join(folder, "hooks"), func(lines []string) ([]string, error) {
 		left, _ := without(lines, wanted)
 		return append(left, wanted.text()), nil
 	})
@@ -158,7 +131,7 @@ func Remove(folder string, words ...string) error {
 	if err != nil {
 		return err
 	}
-	return lists.Change(filepath.Join(folder, "hooks"), func(lines []string) ([]string, error) {
+	return configfile.Change(filepath.Join(folder, "hooks"), func(lines []string) ([]string, error) {
 		left, found := without(lines, wanted)
 		if !found {
 			return nil, fmt.Errorf("there is no hook `%s`", wanted.text())

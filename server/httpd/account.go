@@ -27,7 +27,7 @@ func (e *exchange) account() {
 	}
 	user, err := e.login()
 	switch {
-	case err == access.ErrBusy:
+	case errors.Is(err, access.ErrBusy):
 		e.finish()
 		e.send(v.Refusal(http.StatusServiceUnavailable, "The server is busy", "Please try again in a moment."))
 		return
@@ -45,7 +45,7 @@ func (e *exchange) account() {
 		return
 	}
 	defer leave()
-	e.visitAccount(v, account.User{Site: e.Site, Login: user, Address: e.record.Address})
+	e.visitAccount(v, account.User{Gateway: e.Gateway, Login: user, Address: e.record.Address})
 }
 
 // visitAccount shows the account, after what a form asks for.

@@ -10,7 +10,7 @@ import (
 	"time"
 
 	"gitpoold/access"
-	"gitpoold/daily"
+	"gitpoold/dailyquota"
 	"gitpoold/lfs"
 	"gitpoold/limits"
 	"gitpoold/logs"
@@ -28,7 +28,7 @@ type exchange struct {
 	name   string // of the service
 	began  time.Time
 	record logs.Request
-	meter  *daily.Meter
+	meter  *dailyquota.Meter
 	// right is what the request needs. The others are of Git LFS: the pass that was shown, and the file or the lock that is asked for.
 	right access.Right
 	isLFS bool
@@ -58,7 +58,7 @@ func (e *exchange) finish() {
 	case err == nil:
 		e.w.Header().Set("Connection", "close")
 		time.AfterFunc(e.Limits.Get().Idle, func() { stop(e.r) })
-	case err != io.EOF && err != http.ErrBodyReadAfterClose:
+	case !errors.Is(err, io.EOF) && !errors.Is(err, http.ErrBodyReadAfterClose):
 		stop(e.r)
 	}
 }
@@ -82,7 +82,7 @@ func (e *exchange) head(kind string) {
 
 // use is the use of the service that the request asks for.
 func (e *exchange) use(t tenants.Tenant, in io.Reader, out *pktline.Writer) services.Use {
-	return services.Use{Site: e.Site, Service: e.name, Version: services.Version(e.r.Header.Get("Git-Protocol")), User: e.record.User,
+	return services.Use{Gateway: e.Gateway, Service: e.name, Version: services.Version(e.r.Header.Get("Git-Protocol")), User: e.record.User,
 		Address: e.record.Address, Tenant: t, Meter: e.meter, In: in, Out: out}
 }
 
@@ -123,7 +123,7 @@ func (e *exchange) answer(ctx context.Context, t tenants.Tenant) {
 	if e.name == services.UploadPack {
 		body, err = whole(&holding{body, held})
 	}
-	if err == limits.ErrLines {
+	if errors.Is(err, limits.ErrLines) {
 		e.record.Err = err
 		e.w.Header().Set("Retry-After", "1")
 		e.fail(http.StatusTooManyRequests, err.Error())
@@ -188,7 +188,7 @@ type counting struct {
 	http.ResponseWriter
 	status int
 	bytes  int64
-	meter  *daily.Meter
+	meter  *dailyquota.Meter
 }
 
 func (c *counting) WriteHeader(status int) {

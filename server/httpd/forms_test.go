@@ -28,8 +28,8 @@ func TestTokensOfForms(t *testing.T) {
 
 func TestWhereFormsComeFrom(t *testing.T) {
 	for _, it := range []struct {
-		site, origin string
-		has, is      bool
+		gateway, origin string
+		has, is         bool
 	}{
 		{"", "", false, true}, {"same-origin", "http://example.com", true, true}, {"same-origin", "", false, true}, {"cross-site", "", false, false},
 		{"same-site", "http://example.com", true, false}, {"none", "", false, false}, {"", "http://example.com", true, true},
@@ -37,8 +37,8 @@ func TestWhereFormsComeFrom(t *testing.T) {
 		{"", "null", true, false}, {"", "", true, false}, {"", "example.com", true, false}, {"", "http://a@example.com.evil/example.com", true, false},
 	} {
 		r := httptest.NewRequest("POST", "http://example.com/-/account", nil)
-		if it.site != "" {
-			r.Header.Set("Sec-Fetch-Site", it.site)
+		if it.gateway != "" {
+			r.Header.Set("Sec-Fetch-Site", it.gateway)
 		}
 		if it.has {
 			r.Header["Origin"] = []string{it.origin}

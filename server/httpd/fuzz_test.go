@@ -8,9 +8,9 @@ import (
 	"path/filepath"
 	"testing"
 
+	"gitpoold/gateway"
 	"gitpoold/limits"
 	"gitpoold/services"
-	"gitpoold/site"
 )
 
 const mostOfTest = 64 << 10
@@ -44,7 +44,7 @@ func FuzzBody(f *testing.F) {
 	f.Fuzz(func(t *testing.T, encoding string, text []byte) {
 		r := httptest.NewRequest("POST", "/a.git/git-upload-pack", bytes.NewReader(text))
 		r.Header["Content-Encoding"] = []string{encoding}
-		e := exchange{server: &server{&site.Site{Limits: l}, nil}, w: &counting{ResponseWriter: httptest.NewRecorder()}, r: r,
+		e := exchange{server: &server{&gateway.Gateway{Limits: l}, nil}, w: &counting{ResponseWriter: httptest.NewRecorder()}, r: r,
 			name: services.UploadPack}
 		body, err := e.body()
 		if err != nil {

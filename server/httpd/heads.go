@@ -59,9 +59,7 @@ func (s *seen) look(data []byte) (rest []byte) {
 	h := &s.head
 	if h.body > 0 {
 		skipped := int64(len(data))
-		if skipped > h.body {
-			skipped = h.body
-		}
+		skipped = min(skipped, h.body)
 		h.body -= skipped
 		return data[skipped:]
 	}

@@ -14,16 +14,16 @@ import (
 	"time"
 
 	"gitpoold/access"
+	"gitpoold/gateway"
 	"gitpoold/logs"
 	"gitpoold/pages"
 	"gitpoold/services"
-	"gitpoold/site"
 	"gitpoold/tenants"
 )
 
-// server answers requests for one site.
+// server answers requests.
 type server struct {
-	*site.Site
+	*gateway.Gateway
 	forms *forms
 }
 
@@ -32,12 +32,12 @@ const headBytes = 32 << 10
 
 // Serve answers requests until ctx is done. Then it takes no more connections, lets those requests end that have begun, for a while,
 // and returns.
-func Serve(ctx context.Context, listener net.Listener, s *site.Site) error {
+func Serve(ctx context.Context, listener net.Listener, s *gateway.Gateway) error {
 	return serve(ctx, seenHeads{listener}, s, &server{s, newForms()})
 }
 
 // serve lets a handler answer requests until ctx is done.
-func serve(ctx context.Context, listener net.Listener, s *site.Site, handler http.Handler) error {
+func serve(ctx context.Context, listener net.Listener, s *gateway.Gateway, handler http.Handler) error {
 	values := s.Limits.Get()
 	h := &http.Server{
 		Handler: handler, ReadHeaderTimeout: values.Handshake, IdleTimeout: values.Idle, MaxHeaderBytes: headBytes,
@@ -206,7 +206,7 @@ func (e *exchange) with(method string, answer func(*exchange, context.Context, t
 // open finds the tenant, if the user has the right to it. Else it has answered.
 func (e *exchange) open() (t tenants.Tenant, ok bool) {
 	user, err := e.login()
-	if err == access.ErrBusy {
+	if errors.Is(err, access.ErrBusy) {
 		e.w.Header().Set("Retry-After", busyFor)
 		e.fail(http.StatusServiceUnavailable, err.Error())
 		return t, false
@@ -216,7 +216,7 @@ func (e *exchange) open() (t tenants.Tenant, ok bool) {
 		return t, false
 	}
 	if t, err = e.Open(user, e.record.Tenant, e.right); err == nil && e.pass.Login != "" && e.pass.Right < e.right {
-		err = site.ErrReadOnly
+		err = gateway.ErrReadOnly
 	}
 	var blocked *access.Blocked
 	switch {
@@ -226,7 +226,7 @@ func (e *exchange) open() (t tenants.Tenant, ok bool) {
 		e.fail(http.StatusForbidden, err.Error())
 	case user == "":
 		e.askPassword("this needs a user and a password")
-	case err == site.ErrNotFound:
+	case errors.Is(err, gateway.ErrNotFound):
 		e.fail(http.StatusNotFound, err.Error())
 	default:
 		e.fail(http.StatusForbidden, err.Error())

@@ -13,10 +13,10 @@ import (
 
 	"gitpoold/access"
 	"gitpoold/await"
+	"gitpoold/gateway"
 	"gitpoold/limits"
 	"gitpoold/logs"
 	"gitpoold/metrics"
-	"gitpoold/site"
 )
 
 // served gives the address of a server whose requests may take a second in all.
@@ -39,7 +39,9 @@ func servedFor(t *testing.T, request string) string {
 	}
 	ctx, stop := context.WithCancel(context.Background())
 	t.Cleanup(stop)
-	go func() { _ = Serve(ctx, listener, &site.Site{Limits: l, Log: logs.New(io.Discard, metrics.New())}) }()
+	go func() {
+		_ = Serve(ctx, listener, &gateway.Gateway{Limits: l, Log: logs.New(io.Discard, metrics.New())})
+	}()
 	return listener.Addr().String()
 }
 
@@ -84,7 +86,7 @@ func TestPasswordsThatWaitTooLong(t *testing.T) {
 		t.Fatal(err)
 	}
 	users.Patience = -1
-	s := &server{&site.Site{Limits: l, Access: users, Log: logs.New(io.Discard, metrics.New())}, nil}
+	s := &server{&gateway.Gateway{Limits: l, Access: users, Log: logs.New(io.Discard, metrics.New())}, nil}
 	for _, path := range []string{"/acme/site", "/", "/acme/site.git/info/refs?service=git-upload-pack"} {
 		w, r := httptest.NewRecorder(), httptest.NewRequest("GET", path, nil)
 		r.SetBasicAuth("alice", "correct horse")

@@ -8,11 +8,11 @@ import (
 	"strings"
 	"testing"
 
+	"gitpoold/gateway"
 	"gitpoold/limits"
 	"gitpoold/logs"
 	"gitpoold/metrics"
 	"gitpoold/services"
-	"gitpoold/site"
 )
 
 // TestLFSIsRefusedInItsWords asks as git-lfs does, without a password: what it shows is a message in JSON of its own type, and it asks for no password
@@ -22,7 +22,7 @@ func TestLFSIsRefusedInItsWords(t *testing.T) {
 	if err != nil {
 		t.Fatal(err)
 	}
-	s := &server{&site.Site{Limits: l, Log: logs.New(io.Discard, metrics.New())}, nil}
+	s := &server{&gateway.Gateway{Limits: l, Log: logs.New(io.Discard, metrics.New())}, nil}
 	for _, it := range []struct{ method, path string }{
 		{"POST", "/acme/site.git/info/lfs/objects/batch"}, {"POST", "/acme/site/info/lfs/objects/batch"}, {"POST", "/acme/site.git/info/lfs/locks/verify"},
 		{"GET", "/acme/site.git/info/lfs/locks?limit=1"}, {"PUT", "/acme/site.git/info/lfs/objects/" + strings.Repeat("a", 64)},

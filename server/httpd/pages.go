@@ -13,9 +13,9 @@ import (
 	"time"
 
 	"gitpoold/access"
+	"gitpoold/gateway"
 	"gitpoold/limits"
 	"gitpoold/pages"
-	"gitpoold/site"
 )
 
 // page answers a browser.
@@ -46,7 +46,7 @@ func (e *exchange) page(place pages.Place) {
 func (e *exchange) enter(v pages.Visit) {
 	e.record.Tenant = v.Place.Tenant
 	user, err := e.login()
-	if err == access.ErrBusy {
+	if errors.Is(err, access.ErrBusy) {
 		e.send(v.Refusal(http.StatusServiceUnavailable, "The server is busy", "Please try again in a moment."))
 		return
 	}
@@ -116,7 +116,7 @@ func (e *exchange) taker(user string) string {
 // sendCounted sends an answer, which counts among those that wait until a user takes them: a file may be large, and its taker slow.
 func (e *exchange) sendCounted(v pages.Visit, a pages.Answer) {
 	taken, err := e.Limits.Wait(e.taker(v.User), len(a.Body))
-	if err == limits.ErrAnswer {
+	if errors.Is(err, limits.ErrAnswer) {
 		e.send(v.Refusal(http.StatusTooManyRequests, "Too large", err.Error()+"; clone the repository instead."))
 		return
 	}
@@ -288,7 +288,7 @@ func (e *exchange) stream(a pages.Answer) {
 // notFound answers a path at which nothing is: a browser gets a page.
 func (e *exchange) notFound() {
 	if !strings.Contains(e.r.Header.Get("Accept"), "text/html") {
-		e.fail(http.StatusNotFound, site.ErrNotFound.Error())
+		e.fail(http.StatusNotFound, gateway.ErrNotFound.Error())
 		return
 	}
 	e.finish()

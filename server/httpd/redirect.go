@@ -8,12 +8,12 @@ import (
 	"strconv"
 	"strings"
 
-	"gitpoold/site"
+	"gitpoold/gateway"
 )
 
 // Redirect answers requests over plain http until ctx is done: by the same address over https, of which `port` is the port. Challenges of an authority
 // for certificates are answered first, where there is one; it may be nil.
-func Redirect(ctx context.Context, listener net.Listener, s *site.Site, port int, challenges func(http.Handler) http.Handler) error {
+func Redirect(ctx context.Context, listener net.Listener, s *gateway.Gateway, port int, challenges func(http.Handler) http.Handler) error {
 	var handler http.Handler = redirector(port)
 	if challenges != nil {
 		handler = challenges(handler)

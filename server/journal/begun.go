@@ -65,7 +65,7 @@ func (j *Files) noteBegun() error {
 		err = os.Rename(j.begun+".new", j.begun)
 	}
 	if err == nil {
-		err = syncFolder(filepath.Dir(j.begun))
+		err = regular.SyncFolder(filepath.Dir(j.begun))
 	}
 	return err
 }

@@ -148,11 +148,7 @@ func (j *Files) Losses() uint64 {
 func (j *Files) Bytes() int64 {
 	j.mutex.Lock()
 	defer j.mutex.Unlock()
-	bytes := j.appended.size
-	for _, it := range j.segments[:len(j.segments)-1] {
-		bytes += it.size
-	}
-	return bytes
+	return bytesOf(j.segments, j.appended)
 }
 
 // Number is the number of the last record.
@@ -201,13 +197,4 @@ func (j *Files) Close() error {
 
 func path(folder string, segment uint64) string {
 	return filepath.Join(folder, fmt.Sprintf("%08d", segment))
-}
-
-func syncFolder(folder string) error {
-	file, err := os.Open(folder)
-	if err != nil {
-		return err
-	}
-	defer file.Close()
-	return file.Sync()
 }

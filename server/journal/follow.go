@@ -65,10 +65,7 @@ func Follow(options Options, pool Digest, refusal error) (*Following, error) {
 	if err := f.open(pool, kept); err != nil {
 		return nil, err
 	}
-	if f.place, err = keepPlace(options.Place); err == nil {
-		err = f.place.write(f.walk.end)
-	}
-	if err != nil {
+	if f.place, err = keepPlace(options.Place, f.walk.end); err != nil {
 		f.conn.Close()
 		return nil, err
 	}
@@ -211,7 +208,7 @@ func (f *Following) Take(entries *Entries) (it Followed, err error) {
 func (f *Following) reach() error {
 	at := f.walk.end
 	if at.number == f.reached.number && at.chain != f.reached.chain {
-		return f.options.Address.bad("record %d is another one than this server had: the log lost records and went on", at.number)
+		return f.options.Address.otherRecord(at.number)
 	}
 	if at.number > f.reached.number {
 		f.reached = at
@@ -266,7 +263,7 @@ func (f *Following) other(damaged error) error {
 	if _, record, err := entryOf(found[0]); err == nil && strings.HasSuffix(string(record), string(at.chain[:])) {
 		return damaged
 	}
-	return f.options.Address.bad("record %d is another one than this server had: the log lost records and went on", at.number)
+	return f.options.Address.otherRecord(at.number)
 }
 
 // Arrive says that all records up to a number were carried out.

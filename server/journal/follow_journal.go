@@ -101,11 +101,7 @@ func (f *Following) Bytes() int64 {
 	}
 	f.mutex.Lock()
 	defer f.mutex.Unlock()
-	bytes := f.walk.end.size
-	for _, it := range f.walk.segments[:len(f.walk.segments)-1] {
-		bytes += it.size
-	}
-	return bytes
+	return bytesOf(f.walk.segments, f.walk.end)
 }
 
 // Number is the number of the last record that was taken.

@@ -200,7 +200,7 @@ func (f *Following) compare(taken mark, id, chain string) (uint64, error) {
 	case number < taken.number:
 		return 0, f.options.Address.bad("the log ends at record %d, and this server had come to record %d: the log lost its end", number, taken.number)
 	case number == taken.number && chain != string(taken.chain[:]):
-		return 0, f.options.Address.bad("record %d is another one than this server had: the log lost records and went on", number)
+		return 0, f.options.Address.otherRecord(number)
 	}
 	return number, nil
 }

@@ -133,10 +133,7 @@ func OpenRedis(options Options, pool Digest) (*Redis, error) {
 	if err = r.takeOver(pool, kept); err != nil {
 		return nil, err
 	}
-	if r.place, err = keepPlace(options.Place); err == nil {
-		err = r.place.write(r.acked)
-	}
-	if err == nil {
+	if r.place, err = keepPlace(options.Place, r.acked); err == nil {
 		err = r.place.file.Sync()
 	}
 	if err != nil {
@@ -152,8 +149,7 @@ func (r *Redis) takeOver(pool Digest, kept place) error {
 	began := time.Now()
 	for {
 		err := r.tryTakeOver(pool, kept)
-		var bad *BadLog
-		if err == nil || errors.As(err, &bad) || errors.Is(err, ErrUnsynced) || time.Since(began) > r.options.startWithin(err) {
+		if err == nil || isEnd(err) || errors.Is(err, ErrUnsynced) || time.Since(began) > r.options.startWithin(err) {
 			return err
 		}
 		time.Sleep(time.Second / 10)
@@ -405,11 +401,7 @@ func (r *Redis) Losses() uint64 { return 0 }
 func (r *Redis) Bytes() int64 {
 	r.mutex.Lock()
 	defer r.mutex.Unlock()
-	bytes := r.appended.size
-	for _, it := range r.segments[neededFrom(r.segments, r.base) : len(r.segments)-1] {
-		bytes += it.size
-	}
-	return bytes
+	return bytesOf(r.segments[neededFrom(r.segments, r.base):], r.appended)
 }
 
 // Number is the number of the last record.

@@ -44,13 +44,14 @@ func readPlace(path string) (found place, has bool, err error) {
 	return found, true, nil
 }
 
-// keepPlace makes the file of a place, or opens it.
-func keepPlace(path string) (*placeFile, error) {
+// keepPlace makes the file of a place, or opens it, and writes a place into it.
+func keepPlace(path string, at mark) (*placeFile, error) {
 	file, err := os.OpenFile(path, os.O_RDWR|os.O_CREATE, 0o600)
 	if err != nil {
 		return nil, err
 	}
-	return &placeFile{file}, nil
+	p := &placeFile{file}
+	return p, p.write(at)
 }
 
 func (p *placeFile) write(at mark) error {

@@ -40,6 +40,10 @@ func (a Address) bad(form string, values ...any) error {
 	return &BadLog{Log: a.String(), Reason: fmt.Sprintf(form, values...)}
 }
 
+func (a Address) otherRecord(number uint64) error {
+	return a.bad("record %d is another one than this server had: the log lost records and went on", number)
+}
+
 // reading reads the entries of a stream in order, some at a time.
 type reading struct {
 	conn    redis.Conn
@@ -124,8 +128,7 @@ func unlessTrimmed(conn redis.Conn, address Address, read func() error) error {
 			return err
 		}
 		err = read()
-		var bad *BadLog
-		if !errors.As(err, &bad) {
+		if !isEnd(err) {
 			return err
 		}
 		if now, failed := firstOf(conn, address); failed != nil || now == before {

@@ -521,7 +521,7 @@ func (r *Redis) explain(at mark, other *otherEnd) error {
 		return &BadLog{Log: address.String(), Reason: reason, IsTaken: true, MayHaveLost: true}
 	}
 	if _, record, err := entryOf(found[0]); err != nil || !strings.HasSuffix(string(record), string(at.chain[:])) {
-		return address.bad("record %d is another one than this server had: the log lost records and went on", at.number)
+		return address.otherRecord(at.number)
 	}
 	return &BadLog{Log: address.String(), Reason: "another server has taken the log over" + whoOf(found[1:]), IsTaken: true}
 }

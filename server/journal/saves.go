@@ -6,6 +6,7 @@ import (
 
 	"gitpoold/faultpoint"
 	"gitpoold/frames"
+	"gitpoold/regular"
 )
 
 // Begin begins a segment for the steps that come after a pool file, which may become the pool file now. `open` has the numbers of the
@@ -102,7 +103,7 @@ func (j *Files) dropUnneeded() error {
 		j.base--
 	}
 	faultpoint.Here("after all segments are removed")
-	return syncFolder(j.folder)
+	return regular.SyncFolder(j.folder)
 }
 
 // neededFrom is the place of the first segment that is carried out.

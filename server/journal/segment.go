@@ -62,7 +62,7 @@ func (it *segment) create(folder string, before mark, steps ...frames.Step) (*os
 	}
 	faultpoint.Here("after a segment is renamed")
 	if err == nil {
-		err = syncFolder(folder)
+		err = regular.SyncFolder(folder)
 	}
 	var file *os.File
 	if err == nil {
@@ -318,6 +318,15 @@ func neededFrom(all []segment, base int) int {
 		from--
 	}
 	return from
+}
+
+// bytesOf is how many bytes the records of segments have, of which the last one ends at a mark.
+func bytesOf(all []segment, end mark) int64 {
+	bytes := end.size
+	for _, it := range all[:len(all)-1] {
+		bytes += it.size
+	}
+	return bytes
 }
 
 // baseOf gives the place of the last segment that goes on from a pool file.

@@ -1,6 +1,7 @@
 package lfs
 
 import (
+	"errors"
 	"fmt"
 	"net/http"
 )
@@ -111,7 +112,7 @@ func (s *Store) actions(b *Asked, of Object) ([]string, error) {
 	switch {
 	case err == nil:
 		return nil, nil
-	case err != ErrMissing && err != ErrSize:
+	case !errors.Is(err, ErrMissing) && !errors.Is(err, ErrSize):
 		return nil, err
 	case of.Size < 0:
 		return nil, ErrSize

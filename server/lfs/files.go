@@ -135,9 +135,7 @@ func (u *upload) take(of Object, from io.Reader) error {
 func (u *upload) Write(part []byte) (int, error) {
 	for u.written+int64(len(part)) > u.room {
 		more := u.written + u.left - u.room
-		if more > grant {
-			more = grant
-		}
+		more = min(more, grant)
 		if err := u.grow(more); err != nil {
 			return 0, err
 		}

@@ -16,8 +16,8 @@ import (
 	"strings"
 	"sync"
 
+	"gitpoold/configfile"
 	"gitpoold/faultpoint"
-	"gitpoold/lists"
 	"gitpoold/regular"
 )
 
@@ -36,7 +36,7 @@ const Beside = 4096
 // Store has the files of all tenants. Its methods may be called by many goroutines at once.
 type Store struct {
 	folder string
-	on     *lists.Followed[[]string]
+	on     *configfile.Followed[[]string]
 	// key signs passes.
 	key [sha256.Size]byte
 	// taking is held by who asks for room and takes it.
@@ -64,7 +64,7 @@ type tenant struct {
 // where the list cannot be read later on.
 func Open(folder string, has func(tenant string) bool, tell func(format string, values ...any)) (*Store, error) {
 	path := filepath.Join(folder, ListName)
-	on, err := lists.Follow(func() ([]string, error) { return read(path) }, tell, path)
+	on, err := configfile.Follow(func() ([]string, error) { return read(path) }, tell, path)
 	if err != nil {
 		return nil, err
 	}

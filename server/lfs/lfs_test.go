@@ -15,9 +15,9 @@ import (
 	"testing"
 	"time"
 
-	"gitpoold/answers"
 	"gitpoold/child"
 	"gitpoold/frames"
+	"gitpoold/idempotency"
 	"gitpoold/store"
 	"gitpoold/tenants"
 )
@@ -29,7 +29,7 @@ func (nothing) Ask(context.Context, child.Class, ...frames.Step) (store.Answers,
 	return nil, nil
 }
 func (nothing) Begin(context.Context, string, store.Form) (*store.Stream, error) { return nil, nil }
-func (nothing) Kept(string, string) (kept answers.Answer, has bool)              { return kept, false }
+func (nothing) Kept(string, string) (kept idempotency.Answer, has bool)          { return kept, false }
 func (nothing) Bytes(string) int64                                               { return 0 }
 func (nothing) AtMost(string) int64                                              { return 0 }
 func (nothing) Recount(context.Context, string) error                            { return nil }
@@ -129,14 +129,14 @@ func (f failing) Read([]byte) (int, error) { return 0, f.err }
 // TestFilesFillTheQuotaToTheByte has room for two files of which one is a byte too long, and then for an empty one.
 func TestFilesFillTheQuotaToTheByte(t *testing.T) {
 	s, tenant := opened(t, t.TempDir(), 3*Beside+100)
-	site := tenant("acme/site")
-	check(t, put(s, site, strings.Repeat("a", 60)))
-	if err := put(s, site, strings.Repeat("b", 41+Beside)); err != ErrRoom {
+	gateway := tenant("acme/site")
+	check(t, put(s, gateway, strings.Repeat("a", 60)))
+	if err := put(s, gateway, strings.Repeat("b", 41+Beside)); err != ErrRoom {
 		t.Fatal(err)
 	}
-	check(t, put(s, site, strings.Repeat("b", 40)))
-	check(t, put(s, site, ""))
-	if err := put(s, site, "c"); Refused(err).Status != 507 {
+	check(t, put(s, gateway, strings.Repeat("b", 40)))
+	check(t, put(s, gateway, ""))
+	if err := put(s, gateway, "c"); Refused(err).Status != 507 {
 		t.Fatal(err)
 	}
 	check(t, put(s, tenant("acme/other"), "c"))
@@ -196,8 +196,8 @@ func TestUploadsNeverPassTheQuota(t *testing.T) {
 // TestWhatComesForARemovedTenantIsRefused removes a tenant while a file comes in, and makes it anew.
 func TestWhatComesForARemovedTenantIsRefused(t *testing.T) {
 	s, tenant := opened(t, t.TempDir(), 0)
-	site := tenant("acme/site")
-	check(t, put(s, site, "old"))
+	gateway := tenant("acme/site")
+	check(t, put(s, gateway, "old"))
 	_, err := s.AddLock("acme/site", "a", "alice")
 	check(t, err)
 	remove := func() error {
@@ -205,11 +205,11 @@ func TestWhatComesForARemovedTenantIsRefused(t *testing.T) {
 		if _, err := s.Get("acme/site", named("old").OID); err != ErrLeaving {
 			t.Errorf("while it is removed: %v", err)
 		}
-		if err := put(s, site, "new"); err != ErrLeaving {
+		if err := put(s, gateway, "new"); err != ErrLeaving {
 			t.Errorf("while it is removed: %v", err)
 		}
 		check(t, s.Remove("acme/site"))
-		check(t, put(s, site, "new"))
+		check(t, put(s, gateway, "new"))
 		return nil
 	}
 	var once sync.Once
@@ -217,7 +217,7 @@ func TestWhatComesForARemovedTenantIsRefused(t *testing.T) {
 		once.Do(func() { check(t, remove()) })
 		return nil
 	}
-	if err := s.Put(site, named("late"), strings.NewReader("late"), late); err != ErrLeaving {
+	if err := s.Put(gateway, named("late"), strings.NewReader("late"), late); err != ErrLeaving {
 		t.Fatal(err)
 	}
 	isThere(t, s, "acme/site", "new", true)

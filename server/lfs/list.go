@@ -4,10 +4,11 @@ import (
 	"errors"
 	"fmt"
 	"path/filepath"
+	"slices"
 	"strings"
 
 	"gitpoold/access"
-	"gitpoold/lists"
+	"gitpoold/configfile"
 )
 
 // ListName is the name of the operator's file, and Comment what `init` writes into it.
@@ -16,15 +17,13 @@ const (
 	Comment  = "# PATTERN: tenants that keep files of Git LFS; `gitpoold lfs` changes them."
 )
 
-func read(path string) (patterns []string, err error) {
-	lines, err := lists.Read(path)
-	for _, words := range lines {
-		if len(words) != 1 || !access.ValidPattern(words[0]) {
-			return nil, fmt.Errorf("%s: `%s` is no line PATTERN", path, strings.Join(words, " "))
-		}
-		patterns = append(patterns, words[0])
+func read(path string) ([]string, error) { return configfile.Parse(path, parse) }
+
+func parse(words []string) (pattern string, err error) {
+	if len(words) != 1 || !access.ValidPattern(words[0]) {
+		return "", fmt.Errorf("`%s` is no line PATTERN", strings.Join(words, " "))
 	}
-	return patterns, err
+	return words[0], nil
 }
 
 // Unread says why the list cannot be read, so that what was read before holds. It is nil where it can.
@@ -38,12 +37,7 @@ func (s *Store) IsOn(tenant string) bool {
 	if s == nil {
 		return false
 	}
-	for _, pattern := range s.on.Get() {
-		if access.Matches(pattern, tenant) {
-			return true
-		}
-	}
-	return false
+	return slices.ContainsFunc(s.on.Get(), func(pattern string) bool { return access.Matches(pattern, tenant) })
 }
 
 // Rows gives the patterns of a folder's file.
@@ -54,7 +48,7 @@ func Switch(folder, pattern string, isOn bool) error {
 	if !access.ValidPattern(pattern) {
 		return fmt.Errorf("%q names no tenant: a name of 1 to 64 bytes, or a name and `/*`, or `*`", pattern)
 	}
-	return lists.Change(filepath.Join(folder, ListName), func(lines []string) (left []string, err error) {
+	return configfile.Change(filepath.Join(folder, ListName), func(lines []string) (left []string, err error) {
 		for _, line := range lines {
 			if strings.TrimSpace(line) != pattern {
 				left = append(left, line)

@@ -1,7 +1,7 @@
 package lfs
 
 import (
-	"fmt"
+	"errors"
 	"net/url"
 	"os"
 	"path/filepath"
@@ -11,8 +11,8 @@ import (
 	"unicode"
 	"unicode/utf8"
 
+	"gitpoold/configfile"
 	"gitpoold/faultpoint"
-	"gitpoold/lists"
 )
 
 // Lock says that a user wants to change the file of a path alone. Clients heed it; pushes are not judged by it.
@@ -43,19 +43,14 @@ func (s *Store) Locks(name string) ([]Lock, error) {
 }
 
 // readLocks reads lines `ID TIME OWNER PATH`, in which a path has escapes as in an URL.
-func readLocks(path string) (all []Lock, err error) {
-	lines, err := lists.Read(path)
-	for _, words := range lines {
-		if len(words) != 4 {
-			return nil, fmt.Errorf("%s: a line is not ID TIME OWNER PATH", path)
-		}
-		locked, err := url.PathUnescape(words[3])
-		if err != nil {
-			return nil, fmt.Errorf("%s: %w", path, err)
-		}
-		all = append(all, Lock{words[0], locked, words[1], Owner{words[2]}})
+func readLocks(path string) ([]Lock, error) { return configfile.Parse(path, parseLock) }
+
+func parseLock(words []string) (Lock, error) {
+	if len(words) != 4 {
+		return Lock{}, errors.New("a line is not ID TIME OWNER PATH")
 	}
-	return all, err
+	locked, err := url.PathUnescape(words[3])
+	return Lock{words[0], locked, words[1], Owner{words[2]}}, err
 }
 
 // AddLock locks a path for a user. Where it is locked already, the error is ErrLocked, and the lock is that one.
@@ -132,7 +127,7 @@ func (s *Store) writeLocks(path string, all []Lock) error {
 		lines[at] = strings.Join([]string{it.ID, it.LockedAt, it.Owner.Name, url.PathEscape(it.Path)}, " ")
 	}
 	faultpoint.Here("before locks are written")
-	if err := lists.Write(path, lines); err != nil {
+	if err := configfile.Write(path, lines); err != nil {
 		return err
 	}
 	faultpoint.Here("after locks are written")

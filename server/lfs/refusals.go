@@ -6,7 +6,7 @@ import (
 	"net/http"
 	"syscall"
 
-	"gitpoold/daily"
+	"gitpoold/dailyquota"
 	"gitpoold/limits"
 	"gitpoold/tenants"
 )
@@ -51,7 +51,7 @@ func Refused(err error) *Refusal {
 		return errWords
 	case errors.Is(err, io.ErrUnexpectedEOF):
 		return errShort
-	case err == limits.ErrLines, errors.Is(err, daily.ErrBytes), errors.Is(err, daily.ErrChild):
+	case errors.Is(err, limits.ErrLines), errors.Is(err, dailyquota.ErrBytes), errors.Is(err, dailyquota.ErrChild):
 		return &Refusal{http.StatusTooManyRequests, err.Error()}
 	case errors.Is(err, tenants.ErrFull), errors.As(err, new(limits.Passed)):
 		return &Refusal{http.StatusInsufficientStorage, err.Error()}

@@ -19,9 +19,7 @@ var free = func(folder string) (left, all int64, err error) {
 func (l *Limits) MayGrow(folder string) error {
 	left, all, err := free(folder)
 	reserve := l.Get().DiskReserve
-	if most := all / leastShare; reserve > most {
-		reserve = most
-	}
+	reserve = min(reserve, all/leastShare)
 	if err == nil && left < reserve {
 		return ErrDisk
 	}

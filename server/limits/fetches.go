@@ -43,7 +43,7 @@ type room struct {
 // larger than all of the room has to itself all that there is.
 func (f Fetch) Take(ctx context.Context, bytes int64) (giveBack func(), err error) {
 	it, leave := f.limits.enterRoom(f.who)
-	bytes = atMost(bytes, it.bytes)
+	bytes = min(bytes, it.bytes)
 	if err := it.places.Acquire(ctx, bytes); err != nil {
 		leave()
 		return nil, err
@@ -54,19 +54,12 @@ func (f Fetch) Take(ctx context.Context, bytes int64) (giveBack func(), err erro
 // TryTake does not wait. It is nil where there is no room now.
 func (f Fetch) TryTake(bytes int64) (giveBack func()) {
 	it, leave := f.limits.enterRoom(f.who)
-	bytes = atMost(bytes, it.bytes)
+	bytes = min(bytes, it.bytes)
 	if !it.places.TryAcquire(bytes) {
 		leave()
 		return nil
 	}
 	return func() { it.places.Release(bytes); leave() }
-}
-
-func atMost(bytes, most int64) int64 {
-	if bytes > most {
-		return most
-	}
-	return bytes
 }
 
 // enterRoom gives the room of a user's fetches, and the call after which this one uses it no more.

@@ -14,14 +14,14 @@ import (
 	"time"
 
 	"gitpoold/access"
-	"gitpoold/daily"
+	"gitpoold/configfile"
+	"gitpoold/dailyquota"
 	"gitpoold/fsck"
-	"gitpoold/lists"
 )
 
 // Limits answers what is allowed now. Its methods may be called by many goroutines at once.
 type Limits struct {
-	values *lists.Followed[Values]
+	values *configfile.Followed[Values]
 	mutex  sync.Mutex
 	counts map[string]int
 	// answers has the bytes of the answers that wait until a user takes them, and lists those of its lists of refs among them.
@@ -37,7 +37,7 @@ type Limits struct {
 // Load reads the limits of a folder. `tell` gets a line for the operator where they cannot be read later on.
 func Load(folder string, tell func(format string, values ...any)) (*Limits, error) {
 	path := filepath.Join(folder, "limits")
-	followed, err := lists.Follow(func() (Values, error) { return read(path) }, tell, path)
+	followed, err := configfile.Follow(func() (Values, error) { return read(path) }, tell, path)
 	if err != nil {
 		return nil, err
 	}
@@ -65,9 +65,9 @@ func (l *Limits) Quota(tenant string) int64 {
 }
 
 // Daily gives what a user may take in a day, 0 for no limit. The user "" is a visitor.
-func (l *Limits) Daily(user string) daily.Amount {
+func (l *Limits) Daily(user string) dailyquota.Amount {
 	values := l.Fresh()
-	most := daily.Amount{Bytes: values.DailyBytes, Child: values.DailyChild}
+	most := dailyquota.Amount{Bytes: values.DailyBytes, Child: values.DailyChild}
 	if own, has := values.UserBytes[user]; has {
 		most.Bytes = own
 	}

@@ -13,8 +13,8 @@ import (
 	"time"
 
 	"gitpoold/await"
-	"gitpoold/daily"
-	"gitpoold/lists"
+	"gitpoold/configfile"
+	"gitpoold/dailyquota"
 )
 
 func quiet(string, ...any) {}
@@ -54,7 +54,7 @@ func TestLimitsAreSetWhileTheServerRuns(t *testing.T) {
 		t.Fatal(l.Get())
 	}
 	text, _ := os.ReadFile(path)
-	if string(text) != lists.Text("# a comment", "quota 3M", "connections 7") {
+	if string(text) != configfile.Text("# a comment", "quota 3M", "connections 7") {
 		t.Fatalf("%s", text)
 	}
 	rows, err := Rows(path)
@@ -70,7 +70,7 @@ func TestDailyLimitsOfUsers(t *testing.T) {
 			t.Fatal(err)
 		}
 	}
-	for user, want := range map[string]daily.Amount{"": {Bytes: 5 << 30, Child: 10 * time.Minute}, "alice": {Bytes: 1 << 20, Child: 10 * time.Minute},
+	for user, want := range map[string]dailyquota.Amount{"": {Bytes: 5 << 30, Child: 10 * time.Minute}, "alice": {Bytes: 1 << 20, Child: 10 * time.Minute},
 		"bob": {Bytes: 5 << 30, Child: 20 * time.Second}, "carol": {Child: 10 * time.Minute}} {
 		if got := l.Daily(user); got != want {
 			t.Error(user, got)
@@ -412,8 +412,8 @@ func TestSpoolsOfPushes(t *testing.T) {
 func asked(t *testing.T, isHung bool) *atomic.Int64 {
 	t.Helper()
 	var count atomic.Int64
-	before, released := lists.Stat, make(chan struct{})
-	lists.Stat = func(path string) (os.FileInfo, error) {
+	before, released := configfile.Stat, make(chan struct{})
+	configfile.Stat = func(path string) (os.FileInfo, error) {
 		count.Add(1)
 		if isHung {
 			<-released
@@ -422,7 +422,7 @@ func asked(t *testing.T, isHung bool) *atomic.Int64 {
 	}
 	t.Cleanup(func() {
 		close(released)
-		lists.Stat = before
+		configfile.Stat = before
 	})
 	return &count
 }

@@ -9,8 +9,8 @@ import (
 	"time"
 
 	"gitpoold/access"
+	"gitpoold/configfile"
 	"gitpoold/fsck"
-	"gitpoold/lists"
 	"gitpoold/tenants"
 )
 
@@ -216,7 +216,7 @@ func Defaults() Values {
 
 func read(path string) (Values, error) {
 	v := Defaults()
-	lines, err := lists.Read(path)
+	lines, err := configfile.Read(path)
 	for _, words := range lines {
 		if err := v.take(words); err != nil {
 			return v, fmt.Errorf("%s: %w", path, err)
@@ -294,7 +294,7 @@ type Row struct{ Name, Value, Default, About string }
 
 // Rows gives all limits of a folder's file, those of single tenants and users last.
 func Rows(path string) ([]Row, error) {
-	lines, err := lists.Read(path)
+	lines, err := configfile.Read(path)
 	if err != nil {
 		return nil, err
 	}
@@ -334,7 +334,7 @@ func Set(path string, words ...string) error {
 			return err
 		}
 	}
-	return lists.Change(path, func(lines []string) (left []string, err error) {
+	return configfile.Change(path, func(lines []string) (left []string, err error) {
 		for _, line := range lines {
 			if has := strings.Fields(line); len(has) != len(words) || strings.Join(has[:len(name)], " ") != strings.Join(name, " ") {
 				left = append(left, line)

@@ -135,10 +135,3 @@ func (c *comparison) hunk(changes []Change) (h Hunk) {
 	same(min(last.OldTo+context, len(c.old)))
 	return h
 }
-
-func min(a, b int) int {
-	if a < b {
-		return a
-	}
-	return b
-}

@@ -5,7 +5,8 @@ import (
 	"bytes"
 	"fmt"
 	"io"
-	"sort"
+	"maps"
+	"slices"
 	"strings"
 	"sync"
 )
@@ -123,10 +124,6 @@ func (m *Metrics) now() (all []named) {
 }
 
 func sorted[T any](of map[string]T) []string {
-	names := make([]string, 0, len(of))
-	for name := range of {
-		names = append(names, name)
-	}
-	sort.Strings(names)
+	names := slices.Sorted(maps.Keys(of))
 	return names
 }

@@ -8,7 +8,7 @@ import (
 	"strings"
 	"time"
 
-	"gitpoold/lists"
+	"gitpoold/configfile"
 	"gitpoold/tenants"
 )
 
@@ -51,17 +51,7 @@ func (m Mirror) is(other Mirror) bool {
 }
 
 // read gives the mirrors of a folder's file. What it says of a line that is wrong has no password.
-func read(path string) (all []Mirror, err error) {
-	lines, err := lists.Read(path)
-	for _, words := range lines {
-		it, err := parse(words)
-		if err != nil {
-			return nil, fmt.Errorf("%s: %w", path, err)
-		}
-		all = append(all, it)
-	}
-	return all, err
-}
+func read(path string) ([]Mirror, error) { return configfile.Parse(path, parse) }
 
 func parse(words []string) (m Mirror, err error) {
 	if len(words) != 4 && len(words) != 6 || words[0] != Pull && words[0] != Push {
@@ -154,7 +144,7 @@ func Remove(folder, kind, tenant, url string) error {
 }
 
 func change(folder string, isMeant func(Mirror) bool, line string) error {
-	return lists.Change(filepath.Join(folder, ListName), func(lines []string) (left []string, err error) {
+	return configfile.Change(filepath.Join(folder, ListName), func(lines []string) (left []string, err error) {
 		for _, it := range lines {
 			words := strings.Fields(it)
 			if m, err := parse(words); err != nil || !isMeant(m) {

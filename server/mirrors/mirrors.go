@@ -15,8 +15,8 @@ import (
 	"sync"
 	"time"
 
-	"gitpoold/lists"
-	"gitpoold/site"
+	"gitpoold/configfile"
+	"gitpoold/gateway"
 )
 
 // userOf is whom the log and hooks name for what the mirror of a tenant pushes. No user has such a name, and each mirror has limits of its own by it.
@@ -24,10 +24,10 @@ func userOf(tenant string) string { return "(mirror:" + tenant + ")" }
 
 // Keeper runs the mirrors of one server. Its methods may be called by many goroutines at once.
 type Keeper struct {
-	site   *site.Site
-	folder string
-	list   *lists.Followed[[]Mirror]
-	clock  func() time.Time
+	gateway *gateway.Gateway
+	folder  string
+	list    *configfile.Followed[[]Mirror]
+	clock   func() time.Time
 	// silence is how long git may print nothing.
 	silence time.Duration
 	wake    chan struct{}
@@ -51,15 +51,15 @@ type active struct {
 // silence is how long git may print nothing where nothing else is said. It prints how far it has come, and hosts send signs of life.
 const silence = 5 * time.Minute
 
-// Open reads the mirrors of a site's folder.
-func Open(s *site.Site) (*Keeper, error) {
+// Open reads the mirrors of a server's folder.
+func Open(s *gateway.Gateway) (*Keeper, error) {
 	// git works in another folder.
 	folder, err := filepath.Abs(s.Folder)
 	if err != nil {
 		return nil, err
 	}
 	path := filepath.Join(folder, ListName)
-	followed, err := lists.Follow(func() ([]Mirror, error) { return read(path) }, s.Log.Printf, path)
+	followed, err := configfile.Follow(func() ([]Mirror, error) { return read(path) }, s.Log.Printf, path)
 	if err != nil {
 		return nil, err
 	}
@@ -67,7 +67,7 @@ func Open(s *site.Site) (*Keeper, error) {
 	if err != nil {
 		s.Log.Printf("how mirrors stand cannot be read, so all of them run now: %v", err)
 	}
-	k := &Keeper{site: s, folder: filepath.Join(folder, folderName), list: followed, clock: time.Now, silence: silence,
+	k := &Keeper{gateway: s, folder: filepath.Join(folder, folderName), list: followed, clock: time.Now, silence: silence,
 		wake: make(chan struct{}, 1), states: states, running: map[string]*active{}, pushed: map[string]bool{}}
 	// A push may have come before the server ended that a mirror was not told of.
 	for _, it := range followed.Last() {
@@ -85,11 +85,11 @@ func (k *Keeper) Unread() error { return k.list.Unread() }
 // Count is how many mirrors there are.
 func (k *Keeper) Count() int { return len(k.list.Last()) }
 
-// Refuses is site.Mirrored for who pushes to a tenant that is pulled from elsewhere, and nil for other tenants.
+// Refuses is gateway.Mirrored for who pushes to a tenant that is pulled from elsewhere, and nil for other tenants.
 func (k *Keeper) Refuses(tenant string) error {
 	for _, it := range k.list.Get() {
 		if it.Kind == Pull && it.Tenant == tenant {
-			return site.Mirrored{URL: it.URL}
+			return gateway.Mirrored{URL: it.URL}
 		}
 	}
 	return nil
@@ -153,7 +153,7 @@ func (k *Keeper) Keep(ctx context.Context) {
 	defer ticker.Stop()
 	for {
 		k.sweep()
-		if k.site.Elsewhere == nil || k.site.Elsewhere() == nil {
+		if k.gateway.Elsewhere == nil || k.gateway.Elsewhere() == nil {
 			k.begin(ctx)
 		}
 		select {
@@ -244,7 +244,7 @@ func (k *Keeper) due() (all []Mirror) {
 func (k *Keeper) take(ctx context.Context, m Mirror) (running context.Context, isTaken bool) {
 	k.mutex.Lock()
 	defer k.mutex.Unlock()
-	key, most, failing := m.key(), k.site.Limits.Get().MirrorsAtOnce, 0
+	key, most, failing := m.key(), k.gateway.Limits.Get().MirrorsAtOnce, 0
 	for _, it := range k.running {
 		if it.isFailing {
 			failing++
@@ -274,12 +274,12 @@ func (k *Keeper) carryOut(ctx context.Context, m Mirror, mayDelete bool) (outcom
 	result := "ok"
 	if err != nil {
 		result = "failed"
-		k.site.Log.Printf("the %s mirror of %s failed: %v", m.Kind, m.Tenant, err)
+		k.gateway.Log.Printf("the %s mirror of %s failed: %v", m.Kind, m.Tenant, err)
 	} else if did.changed > 0 {
-		k.site.Log.Printf("the %s mirror of %s changed %d refs of %d", m.Kind, m.Tenant, did.changed, did.refs)
+		k.gateway.Log.Printf("the %s mirror of %s changed %d refs of %d", m.Kind, m.Tenant, did.changed, did.refs)
 	}
-	k.site.Metrics.Add("gitpoold_mirror_runs_total", "Runs of mirrors, by how they went.", 1, "kind", m.Kind, "result", result)
-	k.site.Metrics.Observe("gitpoold_mirror_seconds", "The time of runs of mirrors.", k.clock().Sub(began).Seconds())
+	k.gateway.Metrics.Add("gitpoold_mirror_runs_total", "Runs of mirrors, by how they went.", 1, "kind", m.Kind, "result", result)
+	k.gateway.Metrics.Observe("gitpoold_mirror_seconds", "The time of runs of mirrors.", k.clock().Sub(began).Seconds())
 	return did, err
 }
 
@@ -288,8 +288,8 @@ func (k *Keeper) leave(m Mirror, did outcome, err error, isCut bool) {
 	k.writing.Lock()
 	defer k.writing.Unlock()
 	if now := k.left(m, did, err, isCut); now != nil {
-		if err := writeStates(k.site.Folder, now); err != nil {
-			k.site.Log.Printf("how mirrors stand cannot be written: %v", err)
+		if err := writeStates(k.gateway.Folder, now); err != nil {
+			k.gateway.Log.Printf("how mirrors stand cannot be written: %v", err)
 		}
 	}
 }
@@ -322,8 +322,8 @@ func (k *Keeper) known() map[string]State {
 
 // Run runs the mirrors of a tenant of one kind now, and says what became of them. A mirror that is at work is waited for, and run after it.
 func (k *Keeper) Run(ctx context.Context, kind, tenant string, mayDelete bool) (string, error) {
-	if k.site.Elsewhere != nil {
-		if err := k.site.Elsewhere(); err != nil {
+	if k.gateway.Elsewhere != nil {
+		if err := k.gateway.Elsewhere(); err != nil {
 			return "", err
 		}
 	}

@@ -19,12 +19,14 @@ import (
 	"time"
 
 	"gitpoold/await"
+	"gitpoold/configfile"
+	"gitpoold/gateway"
 	"gitpoold/gitrun"
 	"gitpoold/limits"
-	"gitpoold/lists"
 	"gitpoold/logs"
 	"gitpoold/metrics"
-	"gitpoold/site"
+	"gitpoold/objects"
+	"gitpoold/plumbing"
 	"gitpoold/tenants"
 )
 
@@ -84,7 +86,7 @@ func TestTheList(t *testing.T) {
 		t.Error(info.Mode(), err)
 	}
 	for _, text := range []string{"pull a", "pull a 1h https://host/a me", "push a x https://host/a hidden hidden", "hidden a 1h https://host/a"} {
-		must(t, os.WriteFile(filepath.Join(folder, ListName), []byte(lists.Text(text)), 0o600))
+		must(t, os.WriteFile(filepath.Join(folder, ListName), []byte(configfile.Text(text)), 0o600))
 		if _, err := read(filepath.Join(folder, ListName)); err == nil || strings.Contains(err.Error(), "hidden") {
 			t.Error(text, err)
 		}
@@ -122,7 +124,7 @@ func kept(t *testing.T, folder string, all ...Mirror) *Keeper {
 	}
 	bounds, err := limits.Load(folder, t.Logf)
 	must(t, err)
-	k, err := Open(&site.Site{Folder: folder, Limits: bounds, Log: logs.New(io.Discard, metrics.New()), Metrics: metrics.New()})
+	k, err := Open(&gateway.Gateway{Folder: folder, Limits: bounds, Log: logs.New(io.Discard, metrics.New()), Metrics: metrics.New()})
 	must(t, err)
 	return k
 }
@@ -142,7 +144,7 @@ func TestTheScheduleOutlivesARestart(t *testing.T) {
 	if got := k.due(); len(got) != 0 {
 		t.Error(got)
 	}
-	again := kept(t, k.site.Folder)
+	again := kept(t, k.gateway.Folder)
 	// What a push before the end changed may not have been pushed.
 	if got := again.due(); len(got) != 1 || got[0] != push {
 		t.Error(got)
@@ -154,8 +156,8 @@ func TestTheScheduleOutlivesARestart(t *testing.T) {
 	if got := again.due(); len(got) != 2 {
 		t.Error(got)
 	}
-	must(t, os.WriteFile(filepath.Join(k.site.Folder, folderName, stateName), []byte("{"), 0o600))
-	if got := kept(t, k.site.Folder).due(); len(got) != 2 {
+	must(t, os.WriteFile(filepath.Join(k.gateway.Folder, folderName, stateName), []byte("{"), 0o600))
+	if got := kept(t, k.gateway.Folder).due(); len(got) != 2 {
 		t.Error(got)
 	}
 }
@@ -167,7 +169,7 @@ func TestHostsThatFailKeepNobody(t *testing.T) {
 		all = append(all, Mirror{Pull, fmt.Sprint("t", i), time.Hour, "https://host/a", "", ""})
 	}
 	k := kept(t, t.TempDir(), all...)
-	most := k.site.Limits.Get().MirrorsAtOnce
+	most := k.gateway.Limits.Get().MirrorsAtOnce
 	for _, it := range all[:8] {
 		k.states[it.key()] = State{Failures: 3}
 	}
@@ -206,7 +208,7 @@ func TestAMirrorThatIsTakenBack(t *testing.T) {
 	if !isTaken || k.Refuses("a") == nil || k.Refuses("b") != nil {
 		t.Fatal("it does not run")
 	}
-	must(t, Remove(k.site.Folder, Pull, "a", ""))
+	must(t, Remove(k.gateway.Folder, Pull, "a", ""))
 	if k.sweep(); running.Err() == nil || k.Refuses("a") != nil {
 		t.Error("it goes on")
 	}
@@ -267,22 +269,22 @@ func TestReports(t *testing.T) {
 }
 
 func TestTheBranchOfHead(t *testing.T) {
-	wanted := map[string]tenants.Name{"refs/heads/b": {1}, "refs/heads/a": {1}, "refs/tags/0": {1}}
+	wanted := map[string]plumbing.Name{"refs/heads/b": {1}, "refs/heads/a": {1}, "refs/tags/0": {1}}
 	for _, it := range [][3]string{{"refs/heads/b", "refs/heads/a", "refs/heads/b"}, {"", "refs/heads/b", "refs/heads/b"},
 		{"refs/heads/x", "refs/heads/y", "refs/heads/a"}, {"", "", "refs/heads/a"}} {
 		if got := branchOf(it[0], it[1], wanted); got != it[2] {
 			t.Error(it, got)
 		}
 	}
-	if got := branchOf("refs/heads/x", "", map[string]tenants.Name{"refs/tags/0": {1}}); got != "" {
+	if got := branchOf("refs/heads/x", "", map[string]plumbing.Name{"refs/tags/0": {1}}); got != "" {
 		t.Error(got)
 	}
 }
 
 func TestWhatChangesAndGoes(t *testing.T) {
-	now := []tenants.Ref{{Name: "refs/heads/a", Target: tenants.Name{1}}, {Name: "refs/heads/b", Target: tenants.Name{1}},
-		{Name: "refs/heads/c", Target: tenants.Name{1}}, {Name: "refs/pull/1/head", Target: tenants.Name{1}}}
-	changed, gone := compare(now, map[string]tenants.Name{"refs/heads/a": {1}, "refs/heads/b": {2}, "refs/tags/n": {1}})
+	now := []tenants.Ref{{Name: "refs/heads/a", Target: plumbing.Name{1}}, {Name: "refs/heads/b", Target: plumbing.Name{1}},
+		{Name: "refs/heads/c", Target: plumbing.Name{1}}, {Name: "refs/pull/1/head", Target: plumbing.Name{1}}}
+	changed, gone := compare(now, map[string]plumbing.Name{"refs/heads/a": {1}, "refs/heads/b": {2}, "refs/tags/n": {1}})
 	if strings.Join(changed, " ") != "refs/heads/b refs/tags/n" || strings.Join(gone, " ") != "refs/heads/c" {
 		t.Error(changed, gone)
 	}
@@ -408,7 +410,7 @@ func TestAListOfRefsWithoutEnd(t *testing.T) {
 func TestTooManyRefs(t *testing.T) {
 	url := host(t, func(w io.Writer) {
 		_, _ = io.WriteString(w, packet(commitName+" refs/heads/main\x00\n"))
-		for at := 0; at < mostRefs; at++ {
+		for at := 0; at < objects.MostRefs; at++ {
 			_, _ = io.WriteString(w, packet(fmt.Sprintf("%s refs/heads/%d\n", commitName, at)))
 		}
 		_, _ = io.WriteString(w, "0000")

@@ -8,6 +8,7 @@ import (
 	"net/url"
 	"os"
 	"path/filepath"
+	"slices"
 	"sort"
 	"strings"
 	"syscall"
@@ -15,7 +16,9 @@ import (
 
 	"gitpoold/access"
 	"gitpoold/gitrun"
+	"gitpoold/objects"
 	"gitpoold/pktline"
+	"gitpoold/plumbing"
 	"gitpoold/services"
 	"gitpoold/tenants"
 )
@@ -25,15 +28,15 @@ type outcome struct{ refs, changed int }
 
 // run carries one run of a mirror out, within its time.
 func (k *Keeper) run(ctx context.Context, m Mirror, mayDelete bool) (did outcome, err error) {
-	ctx, stop := context.WithTimeout(ctx, k.site.Limits.Get().Mirror)
+	ctx, stop := context.WithTimeout(ctx, k.gateway.Limits.Get().Mirror)
 	defer stop()
 	scheme, err := schemeOf(m.URL)
 	if err != nil {
 		return did, err
 	}
-	tenant, err := k.site.Pool.Tenant(m.Tenant)
+	tenant, err := k.gateway.Pool.Tenant(m.Tenant)
 	if err == nil && m.Kind == Pull {
-		err = k.site.Access.Blocked("", m.Tenant, access.Write)
+		err = k.gateway.Access.Blocked("", m.Tenant, access.Write)
 	}
 	if err != nil {
 		return did, err
@@ -63,7 +66,8 @@ const memory = 1 << 30
 // repository gives that of a mirror.
 func (k *Keeper) repository(m Mirror, scheme string) repository {
 	return repository{path: filepath.Join(k.folder, m.key()), folder: filepath.Dir(k.folder), url: m.URL, scheme: scheme, silence: k.silence,
-		every: time.Second, memory: memory, mostBytes: k.site.Limits.Get().MirrorBytes, mayGrow: func() error { return k.site.Limits.MayGrow(k.site.Folder) }}
+		every: time.Second, memory: memory, mostBytes: k.gateway.Limits.Get().MirrorBytes,
+		mayGrow: func() error { return k.gateway.Limits.MayGrow(k.gateway.Folder) }}
 }
 
 // run is one run of a mirror.
@@ -76,15 +80,10 @@ type run struct {
 }
 
 // fronts are the refs that are mirrored. Hosts have others of their own, which they do not let be changed.
-var fronts = []string{"refs/heads/", "refs/tags/", "refs/notes/"}
+var fronts = []string{plumbing.Branches, plumbing.Tags, "refs/notes/"}
 
 func isMirrored(ref string) bool {
-	for _, it := range fronts {
-		if strings.HasPrefix(ref, it) {
-			return true
-		}
-	}
-	return false
+	return slices.ContainsFunc(fronts, func(it string) bool { return strings.HasPrefix(ref, it) })
 }
 
 // refspecs let each mirrored ref be what it is at the other side.
@@ -97,7 +96,6 @@ func refspecs() (all []string) {
 
 // Bounds of what git prints: names of refs, and reports of pushes.
 const (
-	mostRefs   = 65_536 // as many as a tenant may have
 	mostListed = 16 << 20
 	mostReport = 32 << 20
 	mostTidied = 8 << 10 // by gc, which is to say nothing
@@ -138,14 +136,14 @@ func (r *run) pull(ctx context.Context) (did outcome, err error) {
 
 // branchOf gives the branch that HEAD of the tenant is to name: that of the other host, or the one that it names, if the host has it; else the first
 // one. It is nothing where there is no branch.
-func branchOf(host, tenant string, wanted map[string]tenants.Name) (first string) {
+func branchOf(host, tenant string, wanted map[string]plumbing.Name) (first string) {
 	for _, it := range []string{host, tenant} {
 		if _, has := wanted[it]; has {
 			return it
 		}
 	}
 	for it := range wanted {
-		if strings.HasPrefix(it, tenants.Branches) && (first == "" || it < first) {
+		if strings.HasPrefix(it, plumbing.Branches) && (first == "" || it < first) {
 			first = it
 		}
 	}
@@ -182,9 +180,7 @@ func (r *run) pushChanged(ctx context.Context, changed []string) (did report) {
 func (r *run) delete(ctx context.Context, gone []string) (did report) {
 	for len(gone) > 0 && ctx.Err() == nil {
 		count := len(gone)
-		if count > mostAtOnce {
-			count = mostAtOnce
-		}
+		count = min(count, mostAtOnce)
 		did = did.and(r.pushTo(ctx, deletions(gone[:count])...))
 		gone = gone[count:]
 	}
@@ -237,7 +233,7 @@ func (r *run) listRemote(ctx context.Context) (head string, err error) {
 			count++
 		}
 	}
-	if count > mostRefs {
+	if count > objects.MostRefs {
 		return "", errOutput
 	}
 	if count == 0 {
@@ -247,27 +243,27 @@ func (r *run) listRemote(ctx context.Context) (head string, err error) {
 }
 
 // refs gives the refs of the repository.
-func (r *run) refs(ctx context.Context) (map[string]tenants.Name, error) {
+func (r *run) refs(ctx context.Context) (map[string]plumbing.Name, error) {
 	var out bytes.Buffer
 	words := append([]string{"for-each-ref", "--format=%(objectname) %(refname)"}, fronts...)
 	if err := r.git(ctx, command{words: words, out: &out, most: mostListed}); err != nil {
 		return nil, err
 	}
-	all := map[string]tenants.Name{}
+	all := map[string]plumbing.Name{}
 	for _, line := range strings.Split(strings.TrimSuffix(out.String(), "\n"), "\n") {
 		digits, ref, _ := strings.Cut(line, " ")
-		if name, is := tenants.ParseName(digits); is {
+		if name, is := plumbing.ParseName(digits); is {
 			all[ref] = name
 		}
 	}
-	if len(all) > mostRefs {
+	if len(all) > objects.MostRefs {
 		return nil, errOutput
 	}
 	return all, nil
 }
 
 // compare gives the refs of a tenant that are to change or to come, and those that are to go.
-func compare(now []tenants.Ref, wanted map[string]tenants.Name) (changed, gone []string) {
+func compare(now []tenants.Ref, wanted map[string]plumbing.Name) (changed, gone []string) {
 	for ref, target := range wanted {
 		if tenants.Refs(now).Target(ref) != target {
 			changed = append(changed, ref)
@@ -312,7 +308,7 @@ func (r *run) isFirst() bool {
 // setHead lets HEAD of the tenant name the branch that the other host's names, if the tenant has it.
 func (r *run) setHead(ctx context.Context, head string) error {
 	refs, now, err := r.tenant.Refs(ctx)
-	if err != nil || head == "" || head == now || tenants.Refs(refs).Target(head) == (tenants.Name{}) {
+	if err != nil || head == "" || head == now || tenants.Refs(refs).Target(head) == (plumbing.Name{}) {
 		return err
 	}
 	return r.tenant.SetHead(ctx, head)
@@ -429,10 +425,7 @@ func (r *run) overSocket(ctx context.Context, service string, c command) error {
 	served := make(chan error, 1)
 	serving, stop := context.WithCancel(ctx)
 	defer stop()
-	go func() {
-		<-serving.Done()
-		_ = own.Close()
-	}()
+	context.AfterFunc(serving, func() { _ = own.Close() })
 	go func() { served <- r.serve(serving, service, own) }()
 	c.local = gits
 	err = r.git(ctx, c)
@@ -445,7 +438,7 @@ func (r *run) overSocket(ctx context.Context, service string, c command) error {
 // serve answers one use of a service. What a mirror pushes is judged as what users push, and told to the log, hooks and push mirrors.
 func (r *run) serve(ctx context.Context, service string, conn *os.File) error {
 	defer conn.Close()
-	use := services.Use{Site: r.site, Service: service, User: userOf(r.m.Tenant), Tenant: r.tenant, In: conn, Out: pktline.NewWriter(conn)}
+	use := services.Use{Gateway: r.gateway, Service: service, User: userOf(r.m.Tenant), Tenant: r.tenant, In: conn, Out: pktline.NewWriter(conn)}
 	if err := use.Advertise(ctx); err != nil {
 		return err
 	}

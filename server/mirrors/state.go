@@ -43,19 +43,12 @@ const (
 
 func waitAfter(failures int, every time.Duration) time.Duration {
 	wait, most := firstWait, longestWait
-	if every < wait {
-		wait = every
-	}
-	if every > most {
-		most = every
-	}
+	wait = min(wait, every)
+	most = max(most, every)
 	for ; failures > 1 && wait < most; failures-- {
 		wait *= 2
 	}
-	if wait > most {
-		return most
-	}
-	return wait
+	return min(most, wait)
 }
 
 // after gives how a mirror stands after a run.

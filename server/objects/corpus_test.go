@@ -13,7 +13,7 @@ import (
 	"gitpoold/fsck"
 	"gitpoold/objects"
 	"gitpoold/pack"
-	"gitpoold/tenants"
+	"gitpoold/plumbing"
 )
 
 // sample is one object of the corpus. Contents have a code point for each byte. Refused is in the refusal where a tenant cannot
@@ -46,12 +46,12 @@ func corpus(t testing.TB) (samples []sample) {
 	return samples
 }
 
-var kinds = map[string]tenants.Kind{"commit": tenants.Commit, "tree": tenants.Tree, "tag": tenants.Tag, "modules": tenants.Blob,
-	"attributes": tenants.Blob}
+var kinds = map[string]plumbing.Kind{"commit": plumbing.Commit, "tree": plumbing.Tree, "tag": plumbing.Tag, "modules": plumbing.Blob,
+	"attributes": plumbing.Blob}
 
-func (s sample) object() tenants.Object {
+func (s sample) object() plumbing.Object {
 	contents := s.bytes()
-	return tenants.Object{Name: pack.NameOf(kinds[s.Kind], contents), Kind: kinds[s.Kind], Contents: contents}
+	return plumbing.Object{Name: pack.NameOf(kinds[s.Kind], contents), Kind: kinds[s.Kind], Contents: contents}
 }
 
 var strict = fsck.Strict()
@@ -74,7 +74,7 @@ func (s sample) judge() (kept, suspect error) {
 		if _, err := objects.ExamineTree(o.Name, o.Contents); err != nil {
 			return err, nil
 		}
-		return nil, objects.Judged(o.Name, strict.Tree(o.Contents, func(tenants.Name, fsck.Special) {}))
+		return nil, objects.Judged(o.Name, strict.Tree(o.Contents, func(plumbing.Name, fsck.Special) {}))
 	case "modules":
 		return nil, objects.Judged(o.Name, strict.Special(o, fsck.Modules))
 	case "attributes":
@@ -118,7 +118,7 @@ func TestGitAgrees(t *testing.T) {
 			t.Fatal(err)
 		}
 		paths[kinds[s.Kind].String()] += path + "\n"
-		if kinds[s.Kind] == tenants.Blob {
+		if kinds[s.Kind] == plumbing.Blob {
 			// It is only looked at where a tree has it under its name.
 			special += "100644 blob " + s.object().Name.String() + "\t.git" + s.Kind + "\n\n"
 		}
@@ -176,7 +176,7 @@ func FuzzObjects(f *testing.F) {
 		}
 		s := sample{Kind: kind, Contents: string(runes)}
 		_, _ = s.judge()
-		objects.ReadHead(contents)
-		objects.Tagged(contents)
+		plumbing.ReadHead(contents)
+		plumbing.Tagged(contents)
 	})
 }

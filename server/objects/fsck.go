@@ -2,11 +2,11 @@ package objects
 
 import (
 	"gitpoold/fsck"
-	"gitpoold/tenants"
+	"gitpoold/plumbing"
 )
 
 // Judged gives a *Refusal of an object that one of the messages about it lets be refused, in git's words.
-func Judged(name tenants.Name, found []fsck.Finding) error {
+func Judged(name plumbing.Name, found []fsck.Finding) error {
 	if fault := fsck.Fault(found); fault != nil {
 		return refuse("object %s: %s", name, fault)
 	}

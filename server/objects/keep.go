@@ -1,13 +1,20 @@
+// Package objects says what of Git's objects a tenant can keep.
+//
+// A tenant's objects come from streams of git-fast-import(1), so a commit has a tree, parents, an author, a committer and perhaps an
+// encoding, a tree has files at paths, and a tag names a commit, a blob or another tag. Here a commit, a tree or a tag is read from
+// Git's bytes, and whatever would not come back as the same bytes is refused in a sentence. The package fsck says what a careful server refuses of
+// the rest.
 package objects
 
 import (
 	"bytes"
 	"fmt"
 	"regexp"
+	"slices"
 	"strconv"
 	"strings"
 
-	"gitpoold/tenants"
+	"gitpoold/plumbing"
 )
 
 // Limits of what a tenant keeps: docs/FORMATS.md.
@@ -17,11 +24,10 @@ const (
 	MostComponents = 256
 	longestRef     = 1_024
 	mostParents    = 1_024
-	longestLine    = 1_048_575
+	LongestLine    = 1_048_575
+	MostRefs       = 65_536
+	MostFiles      = 1_048_576
 )
-
-// EmptyTree is the tree without entries.
-var EmptyTree, _ = nameOf([]byte("4b825dc642cb6eb9a060e54bf8d69288fbee4904"))
 
 // Refusal is an object that a tenant cannot keep, or a ref that cannot be set, in a sentence. WayOut says what a user can do.
 type Refusal struct {
@@ -40,14 +46,14 @@ const withoutSignatures = "Such a history can be pushed from a copy that git wri
 
 // Commit is a commit as its header says it. Lines are the whole lines of the idents and of the encoding.
 type Commit struct {
-	Head
+	plumbing.Head
 	Lines   [][]byte
 	Message []byte
 }
 
 // Tag is an annotated tag. Tagger is the whole line, or nil.
 type Tag struct {
-	Target  tenants.Name
+	Target  plumbing.Name
 	Kind    string
 	Name    string
 	Tagger  []byte
@@ -58,9 +64,9 @@ type header struct {
 	word, value []byte
 }
 
-func short(name tenants.Name) string { return name.String()[:12] }
+func short(name plumbing.Name) string { return name.String()[:12] }
 
-func shown(text []byte) string { return strings.ToValidUTF8(string(text), "\ufffd") }
+func shown[T []byte | string](text T) string { return strings.ToValidUTF8(string(text), "\ufffd") }
 
 // headers gives the header lines and the message; whole is false where no blank line parts them.
 func headers(contents []byte) (lines []header, message []byte, whole bool) {
@@ -75,12 +81,12 @@ func headers(contents []byte) (lines []header, message []byte, whole bool) {
 	}
 }
 
-func checkIdent(kind string, name tenants.Name, h header) error {
+func checkIdent(kind string, name plumbing.Name, h header) error {
 	if !IsIdent(h.value) {
 		return refuse("%s %s has a malformed %s line, which gitpool does not keep: %s", kind, short(name), h.word, shown(h.value))
 	}
-	if len(h.word)+1+len(h.value) > longestLine {
-		return refuse("%s %s has a line of more than %d bytes", kind, short(name), longestLine)
+	if len(h.word)+1+len(h.value) > LongestLine {
+		return refuse("%s %s has a line of more than %d bytes", kind, short(name), LongestLine)
 	}
 	return nil
 }
@@ -119,14 +125,14 @@ func latin(text []byte) []byte {
 	}, text)
 }
 
-func checkMessage(kind string, name tenants.Name, message []byte) error {
+func checkMessage(kind string, name plumbing.Name, message []byte) error {
 	if len(message) > LongestData {
 		return refuse("%s %s has a message of more than %d bytes", kind, short(name), LongestData)
 	}
 	return nil
 }
 
-func otherHeader(kind string, name tenants.Name, word []byte) error {
+func otherHeader(kind string, name plumbing.Name, word []byte) error {
 	what := fmt.Sprintf("a header `%s`", shown(word))
 	switch string(word) {
 	case "gpgsig", "gpgsig-sha256":
@@ -137,17 +143,17 @@ func otherHeader(kind string, name tenants.Name, word []byte) error {
 	return &Refusal{fmt.Sprintf("%s %s has %s, which gitpool does not keep", kind, short(name), what), withoutSignatures}
 }
 
-func malformed(kind string, name tenants.Name) error {
+func malformed(kind string, name plumbing.Name) error {
 	return refuse("%s %s has malformed headers, which gitpool does not keep", kind, short(name))
 }
 
 // TooLong refuses an object that has more bytes than a stream can say.
-func TooLong(kind string, name tenants.Name) error {
+func TooLong(kind string, name plumbing.Name) error {
 	return refuse("%s %s has more than %d bytes, which gitpool does not keep", kind, short(name), LongestData)
 }
 
 // ReadCommit reads a commit from its bytes. The error is a *Refusal where a tenant cannot keep it as it is.
-func ReadCommit(name tenants.Name, contents []byte) (*Commit, error) {
+func ReadCommit(name plumbing.Name, contents []byte) (*Commit, error) {
 	lines, message, whole := headers(contents)
 	for _, line := range lines {
 		if !isOneOf(line.word, "tree", "parent", "author", "committer", "encoding") {
@@ -182,14 +188,14 @@ func isCommit(lines []header, parents int) bool {
 	return true
 }
 
-func commitOf(name tenants.Name, lines []header, parents int, message []byte) (*Commit, error) {
+func commitOf(name plumbing.Name, lines []header, parents int, message []byte) (*Commit, error) {
 	c := &Commit{Message: message}
 	for at, line := range lines {
 		switch {
 		case at > parents:
 			c.Lines = append(c.Lines, bytes.Join([][]byte{line.word, line.value}, []byte(" ")))
 		default:
-			found, ok := nameOf(line.value)
+			found, ok := plumbing.ReadName(line.value)
 			if !ok {
 				return nil, malformed("commit", name)
 			}
@@ -202,21 +208,16 @@ func commitOf(name tenants.Name, lines []header, parents int, message []byte) (*
 			return nil, err
 		}
 	}
-	c.Time = timeOf(lines[2+parents].value)
+	c.Time = plumbing.TimeOf(lines[2+parents].value)
 	return c, checkMessage("commit", name, message)
 }
 
 func isOneOf(word []byte, words ...string) bool {
-	for _, it := range words {
-		if string(word) == it {
-			return true
-		}
-	}
-	return false
+	return slices.Contains(words, string(word))
 }
 
 // ReadTag reads a tag from its bytes. The error is a *Refusal where a tenant cannot keep it as it is.
-func ReadTag(name tenants.Name, contents []byte) (*Tag, error) {
+func ReadTag(name plumbing.Name, contents []byte) (*Tag, error) {
 	lines, message, whole := headers(contents)
 	for _, line := range lines {
 		if !isOneOf(line.word, "object", "type", "tag", "tagger") {
@@ -231,7 +232,7 @@ func ReadTag(name tenants.Name, contents []byte) (*Tag, error) {
 		return nil, refuse("tag %s is of a tree, which gitpool does not keep", shown(lines[2].value))
 	}
 	var ok bool
-	if tag.Target, ok = nameOf(lines[0].value); !ok || !isOneOf(lines[1].value, "commit", "blob", "tag") {
+	if tag.Target, ok = plumbing.ReadName(lines[0].value); !ok || !isOneOf(lines[1].value, "commit", "blob", "tag") {
 		return nil, malformed("tag", name)
 	}
 	return tag, tag.check(name, lines)
@@ -250,8 +251,8 @@ func isTag(lines []header) bool {
 	return true
 }
 
-func (t *Tag) check(name tenants.Name, lines []header) error {
-	if err := CheckRef("refs/tags/" + t.Name); err != nil {
+func (t *Tag) check(name plumbing.Name, lines []header) error {
+	if err := CheckRef(plumbing.Tags + t.Name); err != nil {
 		return err
 	}
 	if len(lines) == 4 {
@@ -271,15 +272,16 @@ type TreeFacts struct {
 
 // ExamineTree looks at each entry of a tree. The error is a *Refusal where a tenant cannot keep the tree as it is: where it is not the one
 // tree of its files.
-func ExamineTree(name tenants.Name, contents []byte) (facts TreeFacts, err error) {
-	var before Entry
+func ExamineTree(name plumbing.Name, contents []byte) (facts TreeFacts, err error) {
+	var before plumbing.Entry
+	left := string(contents)
 	files := map[string]bool{}
-	entry, rest, ok := NextEntry(contents)
-	for len(contents) > 0 {
-		if !ok || len(entry.Path) == 0 || len(entry.Mode) == 0 {
+	entry, rest, ok := plumbing.NextEntry(left)
+	for left != "" {
+		if !ok || entry.Path == "" || entry.Mode == "" {
 			return facts, refuse("tree %s is malformed, which gitpool does not keep", short(name))
 		}
-		next, after, hasNext := NextEntry(rest)
+		next, after, hasNext := plumbing.NextEntry(rest)
 		if err := checkEntry(name, before, entry); err != nil {
 			return facts, err
 		}
@@ -289,20 +291,20 @@ func ExamineTree(name tenants.Name, contents []byte) (facts TreeFacts, err error
 		facts.Entries++
 		facts.HasTrees = facts.HasTrees || entry.IsTree()
 		before, entry, ok = entry, next, hasNext
-		contents, rest = rest, after
+		left, rest = rest, after
 	}
 	return facts, nil
 }
 
-func checkEntry(name tenants.Name, before, entry Entry) error {
-	if !isOneOf(entry.Mode, "100644", "100755", ModeLink, ModeGitlink, ModeTree) {
+func checkEntry(name plumbing.Name, before, entry plumbing.Entry) error {
+	if !entry.IsUsual() {
 		return refuse("tree %s has an entry with mode %s, which gitpool does not keep", short(name), shown(entry.Mode))
 	}
-	if entry.IsTree() && entry.Name == EmptyTree {
+	if entry.IsTree() && entry.Name == plumbing.EmptyTree {
 		return refuse("tree %s has an empty directory `%s`, which gitpool does not keep", short(name), shown(entry.Path))
 	}
-	isBad := isOneOf(entry.Path, ".", "..") || bytes.IndexByte(entry.Path, '/') >= 0
-	if isBad || before.Path != nil && CompareKeys(before, entry) >= 0 {
+	isBad := entry.Path == "." || entry.Path == ".." || strings.Contains(entry.Path, "/")
+	if isBad || before.Path != "" && plumbing.CompareKeys(before, entry) >= 0 {
 		return refuse("tree %s has its entry `%s` out of order or under a bad name, which gitpool does not keep", short(name),
 			shown(entry.Path))
 	}
@@ -310,12 +312,12 @@ func checkEntry(name tenants.Name, before, entry Entry) error {
 }
 
 // checkTwice refuses a directory that has the name of a file. The file need not stand beside it: what is between begins with its name.
-func checkTwice(name tenants.Name, entry Entry, files map[string]bool, next Entry, hasNext bool) error {
-	if entry.IsTree() && files[string(entry.Path)] {
+func checkTwice(name plumbing.Name, entry plumbing.Entry, files map[string]bool, next plumbing.Entry, hasNext bool) error {
+	if entry.IsTree() && files[entry.Path] {
 		return refuse("tree %s has two entries of one name, which gitpool does not keep", short(name))
 	}
-	if hasNext && bytes.HasPrefix(next.Path, entry.Path) && !entry.IsTree() {
-		files[string(entry.Path)] = true
+	if hasNext && strings.HasPrefix(next.Path, entry.Path) && !entry.IsTree() {
+		files[entry.Path] = true
 	}
 	return nil
 }
@@ -328,22 +330,18 @@ func CheckRef(ref string) error {
 		return refuse("a ref name has more than %d bytes", longestRef)
 	}
 	if !strings.HasPrefix(ref, "refs/") || strings.HasPrefix(ref, "refs/namespaces/") {
-		return refuse("%s is no name for a ref: it begins with refs/, and not with refs/namespaces/", shown([]byte(ref)))
+		return refuse("%s is no name for a ref: it begins with refs/, and not with refs/namespaces/", shown(ref))
 	}
 	if !IsRefName(ref) {
-		return refuse("%s is no name for a ref", shown([]byte(ref)))
+		return refuse("%s is no name for a ref", shown(ref))
 	}
 	return nil
 }
 
 // CheckPath gives a *Refusal where a path is past the limits.
-func CheckPath(path []byte) error {
-	if len(path) > longestPath || bytes.Count(path, []byte("/")) >= MostComponents {
-		front := path
-		if len(front) > 60 {
-			front = front[:60]
-		}
-		return refuse("a path has more than %d bytes or %d components: %s..", longestPath, MostComponents, shown(front))
+func CheckPath(path string) error {
+	if len(path) > longestPath || strings.Count(path, "/") >= MostComponents {
+		return refuse("a path has more than %d bytes or %d components: %s..", longestPath, MostComponents, shown(path[:min(len(path), 60)]))
 	}
 	return nil
 }
@@ -356,8 +354,7 @@ func TooDeep() error {
 var quoting = strings.NewReplacer(`\`, `\\`, `"`, `\"`, "\n", `\n`)
 
 // Quote gives a path as a change of a stream has it: between quotes where it would not be read as it stands.
-func Quote(path []byte) string {
-	text := string(path)
+func Quote(text string) string {
 	if !strings.HasPrefix(text, `"`) && !strings.Contains(text, "\n") {
 		return text
 	}

@@ -77,7 +77,7 @@ func Confirm(folder, socket, list, what string) error {
 		if err == nil {
 			return nil
 		}
-		if err != ErrNoServer || time.Now().After(until) {
+		if !errors.Is(err, ErrNoServer) || time.Now().After(until) {
 			return fmt.Errorf("the change is written, but the server that has %s did not say within %v that it has read it: %w; what it read before may hold",
 				folder, confirmWithin, err)
 		}

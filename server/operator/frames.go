@@ -23,7 +23,7 @@ const (
 
 // session is a connection that speaks frames.
 type session struct {
-	door    *Door
+	server  *Server
 	conn    net.Conn
 	in      *bufio.Reader
 	streams map[string]*stream
@@ -38,10 +38,10 @@ type session struct {
 // speakFrames answers frames as `gitpool host` does, until the client ends between frames, a frame is wrong, or the client is silent
 // for too long with a stream open. Streams that are open then are given up. A Restart and an Abandon reach the streams of this connection
 // alone.
-func (d *Door) speakFrames(ctx context.Context, conn net.Conn, in *bufio.Reader) {
+func (d *Server) speakFrames(ctx context.Context, conn net.Conn, in *bufio.Reader) {
 	ctx, stop := context.WithCancel(ctx)
 	defer stop()
-	s := &session{door: d, conn: conn, in: in, streams: map[string]*stream{}, unread: newUnread(d.most),
+	s := &session{server: d, conn: conn, in: in, streams: map[string]*stream{}, unread: newUnread(d.most),
 		answers: make(chan func(context.Context) ([]frames.Answer, error), mostAhead)}
 	written := make(chan struct{})
 	go func() {
@@ -72,7 +72,7 @@ func (s *session) read(ctx context.Context) {
 // await waits for the next frame, and bounds the time until it is there: with a stream open FrameIdle in all; else a client may be silent for as
 // long as it likes, and a frame that it has begun has to come within Idle.
 func (s *session) await() error {
-	values := s.door.site.Limits.Get()
+	values := s.server.gateway.Limits.Get()
 	if len(s.streams) > 0 {
 		return s.conn.SetReadDeadline(time.Now().Add(values.FrameIdle))
 	}
@@ -130,15 +130,15 @@ func (s *session) operate(ctx context.Context, step frames.Step) bool {
 		if len(step.Body) > 0 && !bytes.Equal(step.Body, frames.AsOpened) {
 			return false
 		}
-		if s.door.store.Save(ctx) != nil {
+		if s.server.store.Save(ctx) != nil {
 			return s.refuse(68)
 		}
 	case frames.Remove:
-		err = s.door.removeTenant(ctx, step.Tenant)
+		err = s.server.removeTenant(ctx, step.Tenant)
 	case frames.Compact:
-		err = s.door.compactTenant(ctx, step.Tenant)
+		err = s.server.compactTenant(ctx, step.Tenant)
 	case frames.Copy:
-		err = s.door.copyTenant(ctx, step.Tenant, string(step.Body))
+		err = s.server.copyTenant(ctx, step.Tenant, string(step.Body))
 	}
 	switch {
 	case tenants.ErrorNumber(err) == 90:
@@ -163,7 +163,7 @@ func (s *session) ask(ctx context.Context, first frames.Step) bool {
 	s.settle(ctx, 0, 0)
 	for len(batch) > 0 {
 		s.unread.wait()
-		wait, err := s.door.site.Pool.Pass(child.InRoom(ctx, s.door.most), batch)
+		wait, err := s.server.gateway.Pool.Pass(child.InRoom(ctx, s.server.most), batch)
 		if err != nil {
 			return false
 		}
@@ -196,7 +196,7 @@ func (s *session) open(ctx context.Context, name string) bool {
 	if s.streams[name] != nil {
 		return s.refuse(31)
 	}
-	tenant, err := s.door.site.Pool.Tenant(name)
+	tenant, err := s.server.gateway.Pool.Tenant(name)
 	if err != nil {
 		return s.fail(err)
 	}
@@ -230,7 +230,7 @@ func (s *session) feed(ctx context.Context, step frames.Step) bool {
 	s.answers <- func(ctx context.Context) ([]frames.Answer, error) {
 		answer, err := wait(ctx)
 		if answer.Status == frames.Memory {
-			s.door.store.WantSave()
+			s.server.store.WantSave()
 		}
 		return []frames.Answer{answer}, err
 	}
@@ -264,7 +264,7 @@ func (s *session) withoutStream(name string) bool {
 func (s *session) fail(err error) bool {
 	number := tenants.ErrorNumber(err)
 	if number == 0 {
-		s.door.site.Log.Printf("a client of frames is closed: %v", err)
+		s.server.gateway.Log.Printf("a client of frames is closed: %v", err)
 		return false
 	}
 	return s.refuse(number)

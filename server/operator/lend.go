@@ -18,9 +18,9 @@ import (
 const momentCommand = "moment"
 
 // lend answers with the path of such a folder.
-func (d *Door) lend(ctx context.Context, who audit.Who, conn net.Conn, in *bufio.Reader) {
+func (d *Server) lend(ctx context.Context, who audit.Who, conn net.Conn, in *bufio.Reader) {
 	folder, err := d.moment(ctx)
-	d.site.Log.Operator(who.Line(momentCommand, err))
+	d.gateway.Log.Operator(who.Line(momentCommand, err))
 	if err != nil {
 		fmt.Fprintf(conn, "error %s\n", err)
 		return
@@ -31,18 +31,18 @@ func (d *Door) lend(ctx context.Context, who audit.Who, conn net.Conn, in *bufio
 	}
 }
 
-func (d *Door) moment(ctx context.Context) (folder string, err error) {
-	if folder, err = os.MkdirTemp(d.site.Work, "moment-"); err != nil {
+func (d *Server) moment(ctx context.Context) (folder string, err error) {
+	if folder, err = os.MkdirTemp(d.gateway.Work, "moment-"); err != nil {
 		return "", err
 	}
 	soon, stop := context.WithTimeout(ctx, countWithin)
 	defer stop()
-	take := func() error { return backups.Take(d.site.Folder, folder) }
+	take := func() error { return backups.Take(d.gateway.Folder, folder) }
 	err = d.store.Still(soon, func() error {
-		if d.site.LFS == nil {
+		if d.gateway.LFS == nil {
 			return take()
 		}
-		return d.site.LFS.Still(take)
+		return d.gateway.LFS.Still(take)
 	})
 	if err != nil {
 		os.RemoveAll(folder)

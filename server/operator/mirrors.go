@@ -9,27 +9,27 @@ import (
 var kinds = map[string]string{"mirror": "pull", "push-mirror": "push"}
 
 // mirror runs the mirrors of a tenant, by `mirror run TENANT [--deletions]` or `push-mirror run TENANT`, and answers once they have run.
-func (d *Door) mirror(ctx context.Context, words []string) (string, error) {
+func (d *Server) mirror(ctx context.Context, words []string) (string, error) {
 	mayDelete := len(words) == 4 && words[0] == "mirror" && words[3] == "--deletions"
 	if len(words) != 3 && !mayDelete || words[1] != "run" {
 		return "", errors.New("say `run TENANT`")
 	}
-	if d.site.Mirrors == nil {
+	if d.gateway.Mirrors == nil {
 		return "", errors.New("this server has no mirrors")
 	}
-	return d.site.Mirrors.Run(ctx, kinds[words[0]], words[2], mayDelete)
+	return d.gateway.Mirrors.Run(ctx, kinds[words[0]], words[2], mayDelete)
 }
 
 // mostFailing is how many mirrors that failed the status names.
 const mostFailing = 20
 
 // tellMirrors has the lines of mirrors.
-func (d *Door) tellMirrors(line func(name string, value any)) {
-	if d.site.Mirrors == nil || d.site.Mirrors.Count() == 0 {
+func (d *Server) tellMirrors(line func(name string, value any)) {
+	if d.gateway.Mirrors == nil || d.gateway.Mirrors.Count() == 0 {
 		return
 	}
-	failing := d.site.Mirrors.Failing()
-	line("mirrors", d.site.Mirrors.Count())
+	failing := d.gateway.Mirrors.Failing()
+	line("mirrors", d.gateway.Mirrors.Count())
 	line("mirrors-failing", len(failing))
 	for at, it := range failing {
 		if at == mostFailing {

@@ -18,24 +18,26 @@ import (
 
 	"gitpoold/audit"
 	"gitpoold/child"
+	"gitpoold/faults"
+	"gitpoold/gateway"
 	"gitpoold/journal"
+	"gitpoold/plumbing"
 	"gitpoold/shards"
-	"gitpoold/site"
 	"gitpoold/store"
 	"gitpoold/tenants"
 	"gitpoold/webhooks"
 )
 
-// Door is a server's socket.
-type Door struct {
-	site  *site.Site
-	store *shards.Set
+// Server answers at the server's socket.
+type Server struct {
+	gateway *gateway.Gateway
+	store   *shards.Set
 	// most is how many bytes of answers may wait for a client before no further step is taken.
 	most int64
 }
 
-// New gives the socket of a site over the shards that it serves.
-func New(s *site.Site, over *shards.Set) *Door { return &Door{s, over, mostUnread} }
+// New gives the server of a gateway over the shards that it serves.
+func New(s *gateway.Gateway, over *shards.Set) *Server { return &Server{s, over, mostUnread} }
 
 // Listen makes a socket that only the server's user may open, in the place of one that no server has.
 func Listen(path string) (net.Listener, error) {
@@ -54,19 +56,12 @@ func Listen(path string) (net.Listener, error) {
 }
 
 // Serve answers connections until the context is done; those that are open are closed then, and their streams given up.
-func (d *Door) Serve(ctx context.Context, listener net.Listener) error {
-	listener = d.site.Limits.ListenSocket(listener)
+func (d *Server) Serve(ctx context.Context, listener net.Listener) error {
+	listener = d.gateway.Limits.ListenSocket(listener)
 	var all sync.WaitGroup
 	defer all.Wait()
-	stopped := make(chan struct{})
-	defer close(stopped)
-	go func() {
-		select {
-		case <-ctx.Done():
-		case <-stopped:
-		}
-		listener.Close()
-	}()
+	defer listener.Close()
+	defer context.AfterFunc(ctx, func() { listener.Close() })()
 	for {
 		conn, err := listener.Accept()
 		switch {
@@ -77,7 +72,7 @@ func (d *Door) Serve(ctx context.Context, listener net.Listener) error {
 			return err
 		default:
 			// The process may have too many open files for the moment.
-			d.site.Log.Printf("the socket takes no connection: %v", err)
+			d.gateway.Log.Printf("the socket takes no connection: %v", err)
 			time.Sleep(100 * time.Millisecond)
 			continue
 		}
@@ -90,14 +85,11 @@ func (d *Door) Serve(ctx context.Context, listener net.Listener) error {
 }
 
 // answer answers one connection. Its first byte says what it is: the kind of a frame, or a letter of a command.
-func (d *Door) answer(ctx context.Context, conn net.Conn) {
+func (d *Server) answer(ctx context.Context, conn net.Conn) {
 	defer conn.Close()
 	ctx, stop := context.WithCancel(peer(conn).With(ctx))
 	defer stop()
-	go func() {
-		<-ctx.Done()
-		conn.Close()
-	}()
+	context.AfterFunc(ctx, func() { conn.Close() })
 	in := bufio.NewReaderSize(conn, 1<<16)
 	first, err := in.Peek(1)
 	if err != nil {
@@ -114,8 +106,8 @@ const longestCommand = 4096
 
 // obey reads a command's line, and answers `ok` or `error SENTENCE`, and what there is to tell. Before the command may stand who gives it, as Call
 // writes that.
-func (d *Door) obey(ctx context.Context, conn net.Conn, in *bufio.Reader) {
-	if conn.SetReadDeadline(time.Now().Add(d.site.Limits.Get().Handshake)) != nil {
+func (d *Server) obey(ctx context.Context, conn net.Conn, in *bufio.Reader) {
+	if conn.SetReadDeadline(time.Now().Add(d.gateway.Limits.Get().Handshake)) != nil {
 		return
 	}
 	line, err := bufio.NewReader(io.LimitReader(in, longestCommand)).ReadString('\n')
@@ -128,7 +120,7 @@ func (d *Door) obey(ctx context.Context, conn net.Conn, in *bufio.Reader) {
 		return
 	}
 	text, err := d.command(who.With(ctx), words)
-	d.site.Log.Operator(who.Line(saidBy(words), err))
+	d.gateway.Log.Operator(who.Line(saidBy(words), err))
 	if err != nil {
 		fmt.Fprintf(conn, "error %s\n", err)
 		return
@@ -144,7 +136,7 @@ func saidBy(words []string) string {
 	return webhooks.ShownLine(strings.Join(words, " "))
 }
 
-func (d *Door) command(ctx context.Context, words []string) (string, error) {
+func (d *Server) command(ctx context.Context, words []string) (string, error) {
 	if len(words) == 0 {
 		return "", errors.New("there is no command")
 	}
@@ -182,44 +174,44 @@ const (
 const readWithin = 2 * time.Second
 
 // changed reads a list again that a command has changed; the other words say how. The answer comes once what the list says holds.
-func (d *Door) changed(ctx context.Context, words []string) (string, error) {
+func (d *Server) changed(ctx context.Context, words []string) (string, error) {
 	if len(words) < 2 {
 		return "", errors.New("say which list has changed")
 	}
 	for until := time.Now().Add(readWithin); ; time.Sleep(readWithin / 10) {
-		err := d.site.Read(words[1])
+		err := d.gateway.Read(words[1])
 		if err == nil || time.Now().After(until) || ctx.Err() != nil {
 			return "", err
 		}
 	}
 }
 
-func (d *Door) save(ctx context.Context, _ []string) (string, error) {
+func (d *Server) save(ctx context.Context, _ []string) (string, error) {
 	return "", d.store.Save(ctx)
 }
 
-func (d *Door) copy(ctx context.Context, words []string) (string, error) {
+func (d *Server) copy(ctx context.Context, words []string) (string, error) {
 	return "", d.ofKnown(words[1], func() error { return d.copyTenant(ctx, words[1], words[2]) })
 }
 
-func (d *Door) remove(ctx context.Context, words []string) (string, error) {
-	if d.site.LFS != nil && tenants.ValidName(words[1]) && d.site.LFS.Has(words[1]) {
+func (d *Server) remove(ctx context.Context, words []string) (string, error) {
+	if d.gateway.LFS != nil && tenants.ValidName(words[1]) && d.gateway.LFS.Has(words[1]) {
 		return "", d.removeTenant(ctx, words[1])
 	}
 	return "", d.ofKnown(words[1], func() error { return d.removeTenant(ctx, words[1]) })
 }
 
-func (d *Door) compact(ctx context.Context, words []string) (string, error) {
+func (d *Server) compact(ctx context.Context, words []string) (string, error) {
 	return "", d.ofKnown(words[1], func() error { return d.compactTenant(ctx, words[1]) })
 }
 
-func (d *Door) move(ctx context.Context, words []string) (string, error) {
+func (d *Server) move(ctx context.Context, words []string) (string, error) {
 	shard, err := strconv.Atoi(words[2])
 	if err != nil {
 		return "", fmt.Errorf("%q is no number of a shard", words[2])
 	}
 	return "", d.operate(ctx, words, words[1:2], func() error {
-		defer d.site.Packs.Forget(words[1])
+		defer d.gateway.Packs.Forget(words[1])
 		return d.store.Move(ctx, words[1], shard)
 	})
 }
@@ -228,10 +220,10 @@ func (d *Door) move(ctx context.Context, words []string) (string, error) {
 const countWithin = 5 * time.Minute
 
 // head lets HEAD of a tenant name a branch that it has. A name without `refs/` is that of a branch.
-func (d *Door) head(ctx context.Context, words []string) (string, error) {
+func (d *Server) head(ctx context.Context, words []string) (string, error) {
 	name, ref := words[1], words[2]
 	if !strings.HasPrefix(ref, "refs/") {
-		ref = tenants.Branches + ref
+		ref = plumbing.Branches + ref
 	}
 	return "", d.ofKnown(name, func() error {
 		return d.operate(ctx, words, []string{name}, func() error { return d.setHead(ctx, name, ref) })
@@ -239,8 +231,8 @@ func (d *Door) head(ctx context.Context, words []string) (string, error) {
 }
 
 // setHead does so.
-func (d *Door) setHead(ctx context.Context, name, ref string) error {
-	tenant, err := d.site.Pool.Tenant(name)
+func (d *Server) setHead(ctx context.Context, name, ref string) error {
+	tenant, err := d.gateway.Pool.Tenant(name)
 	if err != nil {
 		return err
 	}
@@ -251,7 +243,7 @@ func (d *Door) setHead(ctx context.Context, name, ref string) error {
 
 // ofKnown does something to a tenant that has something. Frames are answered as the program answers them, to which each tenant is an empty one at
 // least; an operator may have mistyped the name.
-func (d *Door) ofKnown(name string, do func() error) error {
+func (d *Server) ofKnown(name string, do func() error) error {
 	if tenants.ValidName(name) && !d.store.Has(name) {
 		return fmt.Errorf("there is no tenant %s", name)
 	}
@@ -259,26 +251,26 @@ func (d *Door) ofKnown(name string, do func() error) error {
 }
 
 // copyTenant copies a tenant, as it is after its last push or checkpoint, to an empty one, to which no push is at work meanwhile.
-func (d *Door) copyTenant(ctx context.Context, from, to string) error {
+func (d *Server) copyTenant(ctx context.Context, from, to string) error {
 	return d.operate(ctx, []string{"copy", from, to}, []string{to, from}, d.alone(to, func() error {
 		err := d.store.Copy(ctx, from, to)
-		if err == nil && d.site.Owners != nil {
-			err = d.site.Owners.Put(to, d.site.Owners.Of(from))
+		if err == nil && d.gateway.Owners != nil {
+			err = d.gateway.Owners.Put(to, d.gateway.Owners.Of(from))
 		}
-		if err == nil && d.site.LFS != nil {
-			err = d.site.LFS.Copy(from, to)
+		if err == nil && d.gateway.LFS != nil {
+			err = d.gateway.LFS.Copy(from, to)
 		}
 		return err
 	}))
 }
 
-func (d *Door) removeTenant(ctx context.Context, name string) error {
+func (d *Server) removeTenant(ctx context.Context, name string) error {
 	return d.operate(ctx, []string{"remove", name}, []string{name}, d.alone(name, func() error {
 		err := d.removeFiles(name, func() error { return d.store.Remove(ctx, name) })
-		d.site.Views.Forget(name)
-		d.site.Packs.Removed(name)
-		if err == nil && d.site.Owners != nil {
-			err = d.site.Owners.Forget(name)
+		d.gateway.Views.Forget(name)
+		d.gateway.Packs.Removed(name)
+		if err == nil && d.gateway.Owners != nil {
+			err = d.gateway.Owners.Forget(name)
 		}
 		return err
 	}))
@@ -286,37 +278,37 @@ func (d *Door) removeTenant(ctx context.Context, name string) error {
 
 // removeFiles removes a tenant from the pool by `remove`, and its large files after it. Where it is not known whether it was removed, nobody gets its
 // files until the next start knows, or until it is removed again.
-func (d *Door) removeFiles(name string, remove func() error) error {
-	if d.site.LFS == nil {
+func (d *Server) removeFiles(name string, remove func() error) error {
+	if d.gateway.LFS == nil {
 		return remove()
 	}
-	if err := d.site.LFS.Leave(name); err != nil {
+	if err := d.gateway.LFS.Leave(name); err != nil {
 		return err
 	}
 	err := remove()
 	var refused *store.Refused
 	switch {
 	case err == nil:
-		return d.site.LFS.Remove(name)
+		return d.gateway.LFS.Remove(name)
 	case errors.As(err, &refused):
-		if stays := d.site.LFS.Stay(name); stays != nil {
-			d.site.Log.Printf("%v", stays)
+		if stays := d.gateway.LFS.Stay(name); stays != nil {
+			d.gateway.Log.Printf("%v", stays)
 		}
 	}
 	return err
 }
 
-func (d *Door) compactTenant(ctx context.Context, name string) error {
+func (d *Server) compactTenant(ctx context.Context, name string) error {
 	return d.operate(ctx, []string{"compact", name}, []string{name}, d.alone(name, func() error {
-		defer d.site.Packs.Forget(name)
+		defer d.gateway.Packs.Forget(name)
 		return d.store.Compact(ctx, name)
 	}))
 }
 
 // alone gives a call that does something to a tenant while no push is at work.
-func (d *Door) alone(name string, do func() error) func() error {
+func (d *Server) alone(name string, do func() error) func() error {
 	return func() error {
-		tenant, err := d.site.Pool.Tenant(name)
+		tenant, err := d.gateway.Pool.Tenant(name)
 		if err != nil {
 			return err
 		}
@@ -325,10 +317,10 @@ func (d *Door) alone(name string, do func() error) func() error {
 }
 
 // operate asks something of the store about these tenants, which the audit has before. A refusal is told in a sentence.
-func (d *Door) operate(ctx context.Context, what, names []string, do func() error) error {
+func (d *Server) operate(ctx context.Context, what, names []string, do func() error) error {
 	for _, name := range names {
 		if !tenants.ValidName(name) {
-			return tenants.Fault{Number: 32}
+			return faults.Fault(32)
 		}
 	}
 	if err := d.note(ctx, what, nil); err != nil {
@@ -337,25 +329,25 @@ func (d *Door) operate(ctx context.Context, what, names []string, do func() erro
 	err := do()
 	var refused *store.Refused
 	if errors.As(err, &refused) {
-		err = tenants.Fault{Number: refused.Number}
+		err = faults.Fault(refused.Number)
 	}
 	if err != nil {
 		if unwritten := d.note(ctx, what, err); unwritten != nil {
-			d.site.Log.Printf("the audit cannot be written: %v", unwritten)
+			d.gateway.Log.Printf("the audit cannot be written: %v", unwritten)
 		}
 	}
 	return err
 }
 
-func (d *Door) note(ctx context.Context, what []string, failed error) error {
-	if d.site.Folder == "" {
+func (d *Server) note(ctx context.Context, what []string, failed error) error {
+	if d.gateway.Folder == "" {
 		return nil
 	}
-	return audit.Note(d.site.Folder, audit.Of(ctx), strings.Join(what, " "), failed)
+	return audit.Note(d.gateway.Folder, audit.Of(ctx), strings.Join(what, " "), failed)
 }
 
 // tenants has a line for each tenant, as the children tell it now.
-func (d *Door) tenants(ctx context.Context, _ []string) (string, error) {
+func (d *Server) tenants(ctx context.Context, _ []string) (string, error) {
 	var text strings.Builder
 	soon, stop := context.WithTimeout(ctx, countWithin)
 	defer stop()
@@ -364,12 +356,12 @@ func (d *Door) tenants(ctx context.Context, _ []string) (string, error) {
 	}
 	for _, it := range d.usages() {
 		fmt.Fprintf(&text, "%s objects %d refs %d bytes %d own %d since %d quota %d", it.Name, it.Objects, it.Refs, it.Bytes, it.Own,
-			it.Since, d.site.Limits.Quota(it.Name))
-		if d.site.LFS != nil && d.site.LFS.Bytes(it.Name) > 0 {
-			fmt.Fprintf(&text, " lfs %d", d.site.LFS.Bytes(it.Name))
+			it.Since, d.gateway.Limits.Quota(it.Name))
+		if d.gateway.LFS != nil && d.gateway.LFS.Bytes(it.Name) > 0 {
+			fmt.Fprintf(&text, " lfs %d", d.gateway.LFS.Bytes(it.Name))
 		}
-		if d.site.Owners != nil {
-			fmt.Fprintf(&text, " owner %s", d.site.Owners.Of(it.Name))
+		if d.gateway.Owners != nil {
+			fmt.Fprintf(&text, " owner %s", d.gateway.Owners.Of(it.Name))
 		}
 		if d.store.Count() > 1 {
 			fmt.Fprintf(&text, " shard %d", d.store.ShardOf(it.Name))
@@ -380,12 +372,12 @@ func (d *Door) tenants(ctx context.Context, _ []string) (string, error) {
 }
 
 // usages gives what each tenant has in the pool, which may be nothing beside its large files.
-func (d *Door) usages() []store.Usage {
+func (d *Server) usages() []store.Usage {
 	all := d.store.Usages()
-	if d.site.LFS == nil {
+	if d.gateway.LFS == nil {
 		return all
 	}
-	for _, name := range d.site.LFS.Names() {
+	for _, name := range d.gateway.LFS.Names() {
 		if !d.store.Has(name) {
 			all = append(all, store.Usage{Name: name})
 		}
@@ -395,19 +387,19 @@ func (d *Door) usages() []store.Usage {
 }
 
 // status has a line for each number.
-func (d *Door) status(context.Context, []string) (string, error) {
+func (d *Server) status(context.Context, []string) (string, error) {
 	states := d.store.States()
 	state := together(states)
 	var text strings.Builder
 	line := func(name string, value any) { fmt.Fprintf(&text, "%-18s %v\n", name, value) }
-	line("version", d.site.Version)
+	line("version", d.gateway.Version)
 	line("answering", state.IsAnswering)
 	line("child", childrenOf(states))
 	memory, own := memoryOf(states...), child.MemoryOf(os.Getpid())
 	line("child-bytes", memory.Anonymous)
 	line("child-file-bytes", memory.File)
 	line("server-bytes", own.Anonymous+own.File)
-	line("connections", d.site.Limits.Connections())
+	line("connections", d.gateway.Limits.Connections())
 	line("streams", state.Streams)
 	line("steps", state.Steps)
 	line("pushes", state.Pushes)
@@ -428,7 +420,7 @@ func (d *Door) status(context.Context, []string) (string, error) {
 	}
 	tellSaves(line, state)
 	tellEnds(line, states)
-	for _, err := range d.site.Unread() {
+	for _, err := range d.gateway.Unread() {
 		line("list-unread", err)
 	}
 	d.tellPacks(line)
@@ -449,8 +441,8 @@ func tellSaves(line func(name string, value any), state store.State) {
 }
 
 // tellPacks tells of the packs for clones, if any are kept.
-func (d *Door) tellPacks(line func(name string, value any)) {
-	if s := d.site.Packs.State(); s.IsOn {
+func (d *Server) tellPacks(line func(name string, value any)) {
+	if s := d.gateway.Packs.State(); s.IsOn {
 		line("packs", s.Packs)
 		line("pack-bytes", s.Bytes)
 		line("pack-hits", s.Hits)
@@ -463,7 +455,7 @@ func (d *Door) tellPacks(line func(name string, value any)) {
 }
 
 // tellReplica has the lines of a server that follows another one.
-func (d *Door) tellReplica(line func(name string, value any)) {
+func (d *Server) tellReplica(line func(name string, value any)) {
 	records, seconds := d.store.Behind()
 	line("following", d.store.Follows() != nil)
 	line("behind-records", records)
@@ -478,8 +470,8 @@ func when(t time.Time) string {
 }
 
 // Measure lets metrics tell how the store stands.
-func (d *Door) Measure() {
-	m := d.site.Metrics
+func (d *Server) Measure() {
+	m := d.gateway.Metrics
 	number := func(read func(store.State) int64) func() float64 {
 		return func() float64 { return float64(read(together(d.store.States()))) }
 	}
@@ -501,13 +493,13 @@ func (d *Door) Measure() {
 	m.Gauge("gitpoold_answering", "1 while questions are answered, 0 while the child is replaced, or saves without a second one.",
 		number(func(s store.State) int64 { return one(s.IsAnswering) }))
 	m.Gauge("gitpoold_open_streams", "Streams that are open.", number(func(s store.State) int64 { return int64(s.Streams) }))
-	m.Gauge("gitpoold_connections", "Connections that are open.", func() float64 { return float64(d.site.Limits.Connections()) })
+	m.Gauge("gitpoold_connections", "Connections that are open.", func() float64 { return float64(d.gateway.Limits.Connections()) })
 	m.Gauge("gitpoold_child_resident_anonymous_bytes", "The memory of the children's own.",
 		func() float64 { return float64(memoryOf(d.store.States()...).Anonymous) })
 	m.Gauge("gitpoold_child_resident_file_bytes", "What is in memory of the files that the children map, which the kernel may drop and read again.",
 		func() float64 { return float64(memoryOf(d.store.States()...).File) })
 	m.Gauge("gitpoold_lists_unread", "Lists of the operator that cannot be read; what was read before holds.",
-		func() float64 { return float64(len(d.site.Unread())) })
+		func() float64 { return float64(len(d.gateway.Unread())) })
 	m.Gauge("gitpoold_shards", "Shards.", func() float64 { return float64(d.store.Count()) })
 	m.Gauge("gitpoold_server_resident_bytes", "The memory of the server.", func() float64 {
 		own := child.MemoryOf(os.Getpid())
@@ -516,11 +508,11 @@ func (d *Door) Measure() {
 }
 
 // measureLog lets metrics tell how a journal in Redis stands.
-func (d *Door) measureLog() {
+func (d *Server) measureLog() {
 	number := func(read func(journal.RedisCounts) float64) func() float64 {
 		return func() float64 { return read(*together(d.store.States()).Log) }
 	}
-	m := d.site.Metrics
+	m := d.gateway.Metrics
 	m.Gauge("gitpoold_log_answering", "1 while the Redis of the journal takes records.",
 		number(func(c journal.RedisCounts) float64 { return float64(one(c.IsAnswering)) }))
 	m.Gauge("gitpoold_log_waiting_bytes", "Bytes of records that Redis has not yet been sent.",
@@ -534,8 +526,8 @@ func (d *Door) measureLog() {
 }
 
 // measureReplica lets metrics tell how a server stands that follows another one.
-func (d *Door) measureReplica() {
-	m := d.site.Metrics
+func (d *Server) measureReplica() {
+	m := d.gateway.Metrics
 	m.Gauge("gitpoold_following", "1 while another server writes the logs, 0 once this one does.",
 		func() float64 { return float64(one(d.store.Follows() != nil)) })
 	m.Gauge("gitpoold_behind_records", "Records of the logs that were not carried out yet.", func() float64 {

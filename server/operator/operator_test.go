@@ -18,26 +18,27 @@ import (
 	"gitpoold/access"
 	"gitpoold/await"
 	"gitpoold/frames"
+	"gitpoold/gateway"
 	"gitpoold/limits"
 	"gitpoold/logs"
 	"gitpoold/metrics"
+	"gitpoold/plumbing"
 	"gitpoold/shards"
-	"gitpoold/site"
 	"gitpoold/store"
 	"gitpoold/tenants"
 )
 
 var background = context.Background()
 
-// served starts a door over an empty pool, and gives its folder.
+// served starts a server over an empty pool, and gives its folder.
 func served(t testing.TB, limitLines string) string {
 	t.Helper()
 	folder, _ := opened(t, limitLines)
 	return folder
 }
 
-// opened starts a door over an empty pool, and gives its folder and the door.
-func opened(t testing.TB, limitLines string) (string, *Door) {
+// opened starts a server over an empty pool, and gives its folder and the server.
+func opened(t testing.TB, limitLines string) (string, *Server) {
 	t.Helper()
 	program := os.Getenv("GITPOOL")
 	if program == "" {
@@ -54,19 +55,19 @@ func opened(t testing.TB, limitLines string) (string, *Door) {
 	must(t, err)
 	s, err := shards.Open(shards.Config{Store: store.Config{Folder: folder, Program: program, Tell: log.Printf}})
 	must(t, err)
-	door := New(&site.Site{Pool: tenants.New(s, bounds.Quota), Access: who, Limits: bounds, Log: log, Metrics: m, Version: "9"}, s)
-	door.Measure()
+	server := New(&gateway.Gateway{Pool: tenants.New(s, bounds.Quota), Access: who, Limits: bounds, Log: log, Metrics: m, Version: "9"}, s)
+	server.Measure()
 	listener, err := Listen(folder + "/socket")
 	must(t, err)
 	ctx, stop := context.WithCancel(background)
 	ended := make(chan error)
-	go func() { ended <- door.Serve(ctx, listener) }()
+	go func() { ended <- server.Serve(ctx, listener) }()
 	t.Cleanup(func() {
 		stop()
 		must(t, <-ended)
 		must(t, s.Close(background))
 	})
-	return folder, door
+	return folder, server
 }
 
 func must(t testing.TB, err error) {
@@ -137,7 +138,7 @@ func request(random *rand.Rand, names []string) frames.Step {
 func objectNames(random *rand.Rand, count int) (bytes []byte) {
 	all := []string{"5566f0fb5202abaf7f0d21e3b976f604075c31ae", "4b825dc642cb6eb9a060e54bf8d69288fbee4904", strings.Repeat("1", 40)}
 	for ; count > 0; count-- {
-		name, _ := tenants.ParseName(all[random.Intn(len(all)+3)%len(all)])
+		name, _ := plumbing.ParseName(all[random.Intn(len(all)+3)%len(all)])
 		bytes = append(bytes, name[:]...)
 	}
 	return bytes
@@ -304,10 +305,10 @@ func TestCommands(t *testing.T) {
 // TestAPushDoesNotMeetTheOperator has a push that has compared the refs of a tenant, and an operator who would change them before it does: one of
 // both is refused, or waits.
 func TestAPushDoesNotMeetTheOperator(t *testing.T) {
-	folder, door := opened(t, "")
+	folder, server := opened(t, "")
 	commit := "commit refs/heads/main\ncommitter a <a@b> 1 +0000\ndata 1\nx\n"
 	push := func(tenant string, judge func(tenants.Refs) error) error {
-		it, err := door.site.Pool.Tenant(tenant)
+		it, err := server.gateway.Pool.Tenant(tenant)
 		must(t, err)
 		return it.Push(background, judge, func(s *tenants.Stream) error {
 			_, err := s.WriteString(commit)
@@ -325,7 +326,7 @@ func TestAPushDoesNotMeetTheOperator(t *testing.T) {
 		}
 		return nil
 	}))
-	c, err := door.site.Pool.Tenant("c")
+	c, err := server.gateway.Pool.Tenant("c")
 	must(t, err)
 	result, isOver := make(chan error, 1), false
 	must(t, c.Alone(func() error {
@@ -338,7 +339,7 @@ func TestAPushDoesNotMeetTheOperator(t *testing.T) {
 			})
 		}()
 		time.Sleep(50 * time.Millisecond)
-		err := door.store.Copy(background, "a", "c")
+		err := server.store.Copy(background, "a", "c")
 		isOver = true
 		return err
 	}))
@@ -348,12 +349,12 @@ func TestAPushDoesNotMeetTheOperator(t *testing.T) {
 func refusesCommands(t *testing.T, call func(words ...string) string) {
 	t.Helper()
 	for want, words := range map[string][]string{
-		"the target of the copy is not empty (fault 33)": {"copy", "acme/site", "acme/fork"},
-		"the name of the repository is bad (fault 32)":   {"copy", "acme/site", "../x"},
-		"is bad (fault 32)":                              {"remove", "../x"},
-		"bad (fault 32)":                                 {"compact", "../x"},
-		`there is no command "what" with 0 words`:        {"what"},
-		`there is no command "save" with 1 words`:        {"save", "now"},
+		"HEAD than `refs/heads/main` (fault 33)":  {"copy", "acme/site", "acme/fork"},
+		"bad tenant name (fault 32)":              {"copy", "acme/site", "../x"},
+		"tenant name (fault 32)":                  {"remove", "../x"},
+		"name (fault 32)":                         {"compact", "../x"},
+		`there is no command "what" with 0 words`: {"what"},
+		`there is no command "save" with 1 words`: {"save", "now"},
 	} {
 		if got := call(words...); !strings.Contains(got, want) {
 			t.Errorf("%v: %q", words, got)
@@ -363,11 +364,11 @@ func refusesCommands(t *testing.T, call func(words ...string) string) {
 
 // TestStrangersDoNotKeepTheOperatorOut has strangers who have all connections that there may be.
 func TestStrangersDoNotKeepTheOperatorOut(t *testing.T) {
-	folder, door := opened(t, "connections 2\nconnections-by-address 2\n")
+	folder, server := opened(t, "connections 2\nconnections-by-address 2\n")
 	inner, err := net.Listen("tcp", "127.0.0.1:0")
 	must(t, err)
 	defer inner.Close()
-	listener := door.site.Limits.Listen(inner)
+	listener := server.gateway.Limits.Listen(inner)
 	go func() {
 		for {
 			if _, err := listener.Accept(); err != nil {
@@ -375,7 +376,7 @@ func TestStrangersDoNotKeepTheOperatorOut(t *testing.T) {
 			}
 		}
 	}()
-	for door.site.Limits.Connections() < 2 {
+	for server.gateway.Limits.Connections() < 2 {
 		conn, err := net.Dial("tcp", inner.Addr().String())
 		must(t, err)
 		defer conn.Close()
@@ -388,7 +389,7 @@ func TestStrangersDoNotKeepTheOperatorOut(t *testing.T) {
 
 // TestBrokenConnectionsLeaveNothing breaks connections off in many ways, and looks at what runs and what is open still.
 func TestBrokenConnectionsLeaveNothing(t *testing.T) {
-	folder, door := opened(t, "")
+	folder, server := opened(t, "")
 	open := frames.Step{Kind: frames.Open, Tenant: "a"}.AppendTo(nil)
 	feed := frames.Step{Kind: frames.Feed, Tenant: "a", Body: []byte("progress x\n")}.AppendTo(nil)
 	question := frames.Step{Kind: frames.Ask, Tenant: "a", Body: []byte("refs")}.AppendTo(nil)
@@ -403,7 +404,7 @@ func TestBrokenConnectionsLeaveNothing(t *testing.T) {
 		_, _ = conn.Write(all[at%len(all)])
 		conn.Close()
 	}
-	await.Until(t, "the end of all streams", func() bool { return together(door.store.States()).Streams == 0 })
+	await.Until(t, "the end of all streams", func() bool { return together(server.store.States()).Streams == 0 })
 	await.NoMore(t, before)
 }
 

@@ -43,7 +43,7 @@ func TestEndsOfChildrenAreTold(t *testing.T) {
 
 // TestStatusAndMetricsTellOfAChild kills a child as a bad page would.
 func TestStatusAndMetricsTellOfAChild(t *testing.T) {
-	folder, door := opened(t, "")
+	folder, server := opened(t, "")
 	call := func(name string) string {
 		text, err := Call(folder+"/socket", "status")
 		if err != nil {
@@ -61,7 +61,7 @@ func TestStatusAndMetricsTellOfAChild(t *testing.T) {
 		t.Fatal("the child has no memory")
 	}
 	var text strings.Builder
-	door.site.Metrics.Text(&text)
+	server.gateway.Metrics.Text(&text)
 	for _, name := range []string{"gitpoold_child_resident_anonymous_bytes", "gitpoold_child_resident_file_bytes"} {
 		_, value, has := strings.Cut(text.String(), "\n"+name+" ")
 		if !has || strings.HasPrefix(value, "0\n") {

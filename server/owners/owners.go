@@ -14,7 +14,7 @@ import (
 	"strings"
 	"sync"
 
-	"gitpoold/lists"
+	"gitpoold/configfile"
 	"gitpoold/regular"
 	"gitpoold/tenants"
 )
@@ -90,7 +90,7 @@ func parse(path, text string) (lines [][]string, err error) {
 			continue
 		}
 		if len(words) != 2 {
-			return nil, &lists.Lost{Path: path, Reason: "has a line that is none of TENANT USER"}
+			return nil, &configfile.Lost{Path: path, Reason: "has a line that is none of TENANT USER"}
 		}
 		lines = append(lines, words)
 	}

@@ -8,12 +8,12 @@ import (
 	"sync"
 	"testing"
 
-	"gitpoold/lists"
+	"gitpoold/configfile"
 	"gitpoold/tenants"
 )
 
-// site is what tenants have, and what a user may have.
-type site struct {
+// fixture is what tenants have, and what a user may have.
+type fixture struct {
 	t       *testing.T
 	folder  string
 	mutex   sync.Mutex
@@ -22,9 +22,11 @@ type site struct {
 	tenants int
 }
 
-func newSite(t *testing.T) *site { return &site{t: t, folder: t.TempDir(), has: map[string]int64{}} }
+func newFixture(t *testing.T) *fixture {
+	return &fixture{t: t, folder: t.TempDir(), has: map[string]int64{}}
+}
 
-func (s *site) open() *Owners {
+func (s *fixture) open() *Owners {
 	s.t.Helper()
 	o, err := Open(s.folder, func(user string) (int64, int) { return s.bytes, s.tenants }, func(tenant string) int64 {
 		s.mutex.Lock()
@@ -39,7 +41,7 @@ func (s *site) open() *Owners {
 }
 
 // push is a push of a user that brings so many bytes.
-func (s *site) push(o *Owners, user, tenant string, bytes int64) error {
+func (s *fixture) push(o *Owners, user, tenant string, bytes int64) error {
 	room, err := o.Room(user, tenant)
 	if err == nil && room < bytes {
 		err = tenants.ErrUserFull
@@ -68,7 +70,7 @@ func must(t *testing.T, err error) {
 	}
 }
 
-func (s *site) owner(o *Owners, tenant, want string) {
+func (s *fixture) owner(o *Owners, tenant, want string) {
 	s.t.Helper()
 	if has := o.Of(tenant); has != want {
 		s.t.Fatalf("%s belongs to %s, and not to %s", tenant, has, want)
@@ -76,7 +78,7 @@ func (s *site) owner(o *Owners, tenant, want string) {
 }
 
 func TestAUserMakesSoManyTenants(t *testing.T) {
-	s := newSite(t)
+	s := newFixture(t)
 	s.tenants = 3
 	s.has["old"] = 7
 	o := s.open()
@@ -103,7 +105,7 @@ func TestAUserMakesSoManyTenants(t *testing.T) {
 }
 
 func TestAUserHasSoManyBytesInAllTenants(t *testing.T) {
-	s := newSite(t)
+	s := newFixture(t)
 	s.bytes = 10 << 20
 	o := s.open()
 	must(t, s.push(o, "alice", "a", 6<<20))
@@ -134,7 +136,7 @@ func TestAUserHasSoManyBytesInAllTenants(t *testing.T) {
 
 // TestPushesAtOnceShareWhatIsLeft has pushes to many tenants of one user at work at once, none of which ends.
 func TestPushesAtOnceShareWhatIsLeft(t *testing.T) {
-	s := newSite(t)
+	s := newFixture(t)
 	s.bytes = 10 << 20
 	o := s.open()
 	var shares []tenants.Reservation
@@ -160,7 +162,7 @@ func TestPushesAtOnceShareWhatIsLeft(t *testing.T) {
 
 // TestOwnersComeBack asks after a new start, a crash inside a line, and a damaged line.
 func TestOwnersComeBack(t *testing.T) {
-	s := newSite(t)
+	s := newFixture(t)
 	o := s.open()
 	for _, tenant := range []string{"a", "b", "c"} {
 		must(t, s.push(o, "alice", tenant, 1))
@@ -181,18 +183,18 @@ func TestOwnersComeBack(t *testing.T) {
 		delete(s.has, "e")
 	}
 	must(t, os.WriteFile(path, []byte("a alice\nb\nc alice\n"), 0o600))
-	if _, err := Open(s.folder, nil, nil); !errors.As(err, new(*lists.Lost)) {
+	if _, err := Open(s.folder, nil, nil); !errors.As(err, new(*configfile.Lost)) {
 		t.Fatal(err)
 	}
 }
 
 // TestAnotherFileIsTaken has the operator put the owners of another server there while this one runs, as at a replica, and write a line.
 func TestAnotherFileIsTaken(t *testing.T) {
-	s := newSite(t)
+	s := newFixture(t)
 	o := s.open()
 	must(t, s.push(o, "alice", "a", 1))
 	path := filepath.Join(s.folder, "owners")
-	must(t, os.WriteFile(path+".new", []byte(lists.Text("# TENANT USER", "a bob")+"b carol\n"), 0o600))
+	must(t, os.WriteFile(path+".new", []byte(configfile.Text("# TENANT USER", "a bob")+"b carol\n"), 0o600))
 	must(t, os.Rename(path+".new", path))
 	s.has["b"] = 1
 	must(t, s.push(o, "alice", "c", 1))
@@ -216,7 +218,7 @@ func TestAnotherFileIsTaken(t *testing.T) {
 
 // TestTenantsInWhichNothingCameToBe have pushes that fail, and a crash before one has ended.
 func TestTenantsInWhichNothingCameToBe(t *testing.T) {
-	s := newSite(t)
+	s := newFixture(t)
 	s.tenants = 2
 	o := s.open()
 	for at := 0; at < 10; at++ {
@@ -253,7 +255,7 @@ func TestTenantsInWhichNothingCameToBe(t *testing.T) {
 
 // TestAnOwnerIsOnTheDiskBefore has a file that takes nothing: no push begins.
 func TestAnOwnerIsOnTheDiskBefore(t *testing.T) {
-	s := newSite(t)
+	s := newFixture(t)
 	o := s.open()
 	readOnly, err := os.Open(filepath.Join(s.folder, "owners"))
 	must(t, err)

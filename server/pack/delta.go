@@ -16,7 +16,7 @@ func Patch(base, delta []byte, most int64) ([]byte, error) {
 	if size > uint64(most) {
 		return nil, tooLong(most)
 	}
-	out := make([]byte, 0, smaller(int(size), len(base)+len(delta)))
+	out := make([]byte, 0, min(int(size), len(base)+len(delta)))
 	for len(delta) > 0 {
 		if out, delta, ok = carryOut(out, base, delta); !ok || len(out) > int(size) {
 			return nil, errDelta
@@ -26,13 +26,6 @@ func Patch(base, delta []byte, most int64) ([]byte, error) {
 		return nil, errDelta
 	}
 	return out, nil
-}
-
-func smaller(a, b int) int {
-	if a < b {
-		return a
-	}
-	return b
 }
 
 func takeSize(delta []byte) (size uint64, rest []byte, ok bool) {

@@ -13,23 +13,23 @@ import (
 	"strings"
 	"testing"
 
-	"gitpoold/tenants"
+	"gitpoold/plumbing"
 )
 
 // noBase is a tenant that has nothing.
 type noBase struct{}
 
-func (noBase) Object(context.Context, tenants.Name) (tenants.Object, error) {
-	return tenants.Object{}, tenants.ErrMissing
+func (noBase) Object(context.Context, plumbing.Name) (plumbing.Object, error) {
+	return plumbing.Object{}, plumbing.ErrMissing
 }
 
 // mapBase is a tenant that has some objects.
-type mapBase map[tenants.Name]tenants.Object
+type mapBase map[plumbing.Name]plumbing.Object
 
-func (m mapBase) Object(_ context.Context, name tenants.Name) (tenants.Object, error) {
+func (m mapBase) Object(_ context.Context, name plumbing.Name) (plumbing.Object, error) {
 	o, is := m[name]
 	if !is {
-		return o, tenants.ErrMissing
+		return o, plumbing.ErrMissing
 	}
 	return o, nil
 }
@@ -45,7 +45,7 @@ func read(t testing.TB, pack []byte, base Base, limits Limits) (*Quarantine, err
 }
 
 // namesOf gives the names of a kind of objects.
-func namesOf(q *Quarantine, kind tenants.Kind) (names []tenants.Name) {
+func namesOf(q *Quarantine, kind plumbing.Kind) (names []plumbing.Name) {
 	_ = q.Each(kind, func(at int) error {
 		names = append(names, q.NameAt(at))
 		return nil
@@ -76,13 +76,13 @@ func TestPacksOfGitAreRead(t *testing.T) {
 			t.Fatal(err)
 		}
 		for _, text := range names {
-			name, _ := tenants.ParseName(text)
+			name, _ := plumbing.ParseName(text)
 			o, err := q.Object(context.Background(), name)
 			if err != nil || NameOf(o.Kind, o.Contents) != name {
 				t.Fatalf("%s: %v", text, err)
 			}
 		}
-		if count := len(namesOf(q, tenants.Commit)); count != 6 {
+		if count := len(namesOf(q, plumbing.Commit)); count != 6 {
 			t.Fatalf("%d commits", count)
 		}
 	}
@@ -152,8 +152,8 @@ func delta(was, size uint64, instructions ...byte) []byte {
 
 func TestWhatIsRefused(t *testing.T) {
 	blob := []byte("some contents\n")
-	name := NameOf(tenants.Blob, blob)
-	other := NameOf(tenants.Blob, []byte("other"))
+	name := NameOf(plumbing.Blob, blob)
+	other := NameOf(plumbing.Blob, []byte("other"))
 	zeros := make([]byte, 66<<20)
 	small := Usual
 	small.Bytes, small.Objects, small.PackBytes = 1<<20, 3, 1<<16
@@ -236,15 +236,15 @@ func TestShortChainsAreRead(t *testing.T) {
 
 func TestThinPacks(t *testing.T) {
 	blob := []byte("some contents\n")
-	name := NameOf(tenants.Blob, blob)
+	name := NameOf(plumbing.Blob, blob)
 	made := append(append([]byte{}, blob...), "more\n"...)
-	last := NameOf(tenants.Blob, append(append([]byte{}, made...), '!'))
+	last := NameOf(plumbing.Blob, append(append([]byte{}, made...), '!'))
 	// The second delta comes before its base, the first one, which is against the tenant's object.
-	first := NameOf(tenants.Blob, made)
+	first := NameOf(plumbing.Blob, made)
 	pack := newMaker(2).
 		entry(7, 6, first[:], delta(uint64(len(made)), uint64(len(made)+1), 0x90, byte(len(made)), 1, '!')).
 		entry(7, 10, name[:], delta(14, uint64(len(made)), append([]byte{0x90, 14, 5}, "more\n"...)...)).done()
-	q, err := read(t, pack, mapBase{name: {Name: name, Kind: tenants.Blob, Contents: blob}}, Usual)
+	q, err := read(t, pack, mapBase{name: {Name: name, Kind: plumbing.Blob, Contents: blob}}, Usual)
 	if err != nil {
 		t.Fatal(err)
 	}
@@ -287,7 +287,7 @@ func FuzzPatch(f *testing.F) {
 
 func FuzzRead(f *testing.F) {
 	blob := []byte("some contents\n")
-	name := NameOf(tenants.Blob, blob)
+	name := NameOf(plumbing.Blob, blob)
 	f.Add(newMaker(1).entry(3, 14, nil, blob).Bytes())
 	f.Add(newMaker(2).entry(3, 14, nil, blob).entry(7, 4, name[:], delta(14, 14, 0x90, 14)).Bytes())
 	f.Add(newMaker(2).entry(7, 4, name[:], delta(14, 14, 0x90, 14)).entry(3, 14, nil, blob).Bytes())
@@ -305,7 +305,7 @@ func FuzzRead(f *testing.F) {
 		if q.Read(context.Background(), bytes.NewReader(append(pack, sum[:]...))) != nil {
 			return
 		}
-		for kind := tenants.Commit; kind <= tenants.Tag; kind++ {
+		for kind := plumbing.Commit; kind <= plumbing.Tag; kind++ {
 			for _, name := range namesOf(q, kind) {
 				if o, err := q.Object(context.Background(), name); err != nil || NameOf(o.Kind, o.Contents) != name {
 					t.Fatalf("%v: %v", name, err)
@@ -324,7 +324,7 @@ func TestWorkIsBounded(t *testing.T) {
 	limits.Bytes = 1 << 18
 	base, other := make([]byte, size), bytes.Repeat([]byte{1}, size)
 	small := delta(size, 1, 1, 'x')
-	one, two := NameOf(tenants.Blob, base), NameOf(tenants.Blob, other)
+	one, two := NameOf(plumbing.Blob, base), NameOf(plumbing.Blob, other)
 	row := newMaker(count+1).entry(3, size, nil, base)
 	turns := newMaker(count+2).entry(3, size, nil, base).entry(3, size, nil, other)
 	for at := 0; at < count; at++ {
@@ -342,7 +342,7 @@ func TestWorkIsBounded(t *testing.T) {
 // manyEntries makes packs of so many entries: empty blobs, the same blob again and again, and deltas that wait for one base.
 func manyEntries(count int) map[string][]byte {
 	empty, same, waiting := newMaker(uint32(count)), newMaker(uint32(count)), newMaker(uint32(count))
-	base := NameOf(tenants.Blob, []byte("a base"))
+	base := NameOf(plumbing.Blob, []byte("a base"))
 	for at := 0; at < count; at++ {
 		empty.entry(3, 0, nil, nil)
 		same.entry(3, 4, nil, []byte("same"))

@@ -7,12 +7,12 @@ import (
 	"io"
 	"strconv"
 
-	"gitpoold/tenants"
+	"gitpoold/plumbing"
 )
 
 // Base has the objects that a thin pack builds on: those of the tenant that it is sent to.
 type Base interface {
-	Object(context.Context, tenants.Name) (tenants.Object, error)
+	Object(context.Context, plumbing.Name) (plumbing.Object, error)
 }
 
 // Quarantine has the objects of one push, in a temporary file without a name. They become part of nothing until the push is
@@ -21,14 +21,14 @@ type Quarantine struct {
 	base    Base
 	limits  Limits
 	spool   *spool
-	own     map[tenants.Name]int32
+	own     map[plumbing.Name]int32
 	entries []entry
 	namer   namer
 }
 
 // entry is an object of the pack, or a delta that waits for its base.
 type entry struct {
-	name  tenants.Name
+	name  plumbing.Name
 	kind  byte
 	isOwn bool // whether it is the first one of its object, and the object is the pack's
 	depth int32
@@ -43,7 +43,7 @@ func NewQuarantine(folder string, base Base, limits Limits) (*Quarantine, error)
 	if err != nil {
 		return nil, err
 	}
-	return &Quarantine{base: base, limits: limits, spool: spool, own: map[tenants.Name]int32{}, namer: newNamer()}, nil
+	return &Quarantine{base: base, limits: limits, spool: spool, own: map[plumbing.Name]int32{}, namer: newNamer()}, nil
 }
 
 // Close drops the objects.
@@ -56,19 +56,19 @@ func (q *Quarantine) Len() int { return len(q.entries) }
 func (q *Quarantine) Bytes() int64 { return q.spool.end }
 
 // Find gives the place of an object of the pack among its entries.
-func (q *Quarantine) Find(name tenants.Name) (at int, isOwn bool) {
+func (q *Quarantine) Find(name plumbing.Name) (at int, isOwn bool) {
 	found, isOwn := q.own[name]
 	return int(found), isOwn
 }
 
 // KindAt gives the kind of the object at a place.
-func (q *Quarantine) KindAt(at int) tenants.Kind { return tenants.Kind(q.entries[at].kind) }
+func (q *Quarantine) KindAt(at int) plumbing.Kind { return plumbing.Kind(q.entries[at].kind) }
 
 // ContentsAt gives the contents of the object at a place. Who keeps them for long keeps a copy.
 func (q *Quarantine) ContentsAt(at int) ([]byte, error) { return q.contents(at) }
 
 // Each calls use with the place of each object of a kind, in the order of the pack, until it gives an error.
-func (q *Quarantine) Each(kind tenants.Kind, use func(at int) error) error {
+func (q *Quarantine) Each(kind plumbing.Kind, use func(at int) error) error {
 	for at := range q.entries {
 		if it := &q.entries[at]; it.isOwn && it.kind == byte(kind) {
 			if err := use(at); err != nil {
@@ -80,7 +80,7 @@ func (q *Quarantine) Each(kind tenants.Kind, use func(at int) error) error {
 }
 
 // Kind tells whether the pack has an object, and of which kind.
-func (q *Quarantine) Kind(name tenants.Name) (tenants.Kind, bool) {
+func (q *Quarantine) Kind(name plumbing.Name) (plumbing.Kind, bool) {
 	at, is := q.Find(name)
 	if !is {
 		return 0, false
@@ -89,19 +89,19 @@ func (q *Quarantine) Kind(name tenants.Name) (tenants.Kind, bool) {
 }
 
 // NameAt gives the name of the object at a place.
-func (q *Quarantine) NameAt(at int) tenants.Name { return q.entries[at].name }
+func (q *Quarantine) NameAt(at int) plumbing.Name { return q.entries[at].name }
 
 // SizeAt gives how many bytes the object at a place has.
 func (q *Quarantine) SizeAt(at int) int64 { return q.entries[at].size }
 
 // ObjectAt gives the object at a place, as Object does.
-func (q *Quarantine) ObjectAt(at int) (tenants.Object, error) {
+func (q *Quarantine) ObjectAt(at int) (plumbing.Object, error) {
 	contents, err := q.contents(at)
-	return tenants.Object{Name: q.NameAt(at), Kind: q.KindAt(at), Contents: contents}, err
+	return plumbing.Object{Name: q.NameAt(at), Kind: q.KindAt(at), Contents: contents}, err
 }
 
 // Object gives an object of the pack, or else of the tenant. Who keeps its contents for long keeps a copy.
-func (q *Quarantine) Object(ctx context.Context, name tenants.Name) (tenants.Object, error) {
+func (q *Quarantine) Object(ctx context.Context, name plumbing.Name) (plumbing.Object, error) {
 	if at, is := q.Find(name); is {
 		return q.ObjectAt(at)
 	}
@@ -124,7 +124,7 @@ func (q *Quarantine) put(data []byte) (at int64, err error) {
 
 // keep stores an object of the pack. One that is there already is not stored again.
 func (q *Quarantine) keep(it entry, contents []byte) (err error) {
-	it.name, it.size = q.namer.name(tenants.Kind(it.kind), contents), int64(len(contents))
+	it.name, it.size = q.namer.name(plumbing.Kind(it.kind), contents), int64(len(contents))
 	if was, is := q.own[it.name]; is {
 		it.at = q.entries[was].at
 	} else if it.at, err = q.put(contents); err != nil {
@@ -154,7 +154,7 @@ func (q *Quarantine) enter(it entry) error {
 }
 
 // NameOf gives the name of an object.
-func NameOf(kind tenants.Kind, contents []byte) tenants.Name {
+func NameOf(kind plumbing.Kind, contents []byte) plumbing.Name {
 	n := newNamer()
 	return n.name(kind, contents)
 }
@@ -167,7 +167,7 @@ type namer struct {
 
 func newNamer() namer { return namer{digest: sha1.New()} }
 
-func (n *namer) name(kind tenants.Kind, contents []byte) (name tenants.Name) {
+func (n *namer) name(kind plumbing.Kind, contents []byte) (name plumbing.Name) {
 	n.text = append(append(n.text[:0], kind.String()...), ' ')
 	n.text = append(strconv.AppendInt(n.text, int64(len(contents)), 10), 0)
 	n.digest.Reset()

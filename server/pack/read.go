@@ -10,7 +10,7 @@ import (
 
 	"github.com/klauspost/compress/zlib"
 
-	"gitpoold/tenants"
+	"gitpoold/plumbing"
 )
 
 // The kinds of entries beside those of objects.
@@ -26,7 +26,7 @@ type reading struct {
 	inflater io.ReadCloser
 	data     bytes.Buffer
 	byEntry  map[int][]int
-	byName   map[tenants.Name][]int
+	byName   map[plumbing.Name][]int
 	waiting  int
 	work     int64
 	lastBase int
@@ -36,7 +36,7 @@ type reading struct {
 // Read reads a whole pack, and does not wait for the end of the input. An error is a sentence for the client; the objects that were read before it
 // are of no use.
 func (q *Quarantine) Read(ctx context.Context, from io.Reader) error {
-	r := &reading{Quarantine: q, in: newInput(from, q.limits.PackBytes), byEntry: map[int][]int{}, byName: map[tenants.Name][]int{}}
+	r := &reading{Quarantine: q, in: newInput(from, q.limits.PackBytes), byEntry: map[int][]int{}, byName: map[plumbing.Name][]int{}}
 	count, err := r.head()
 	if err != nil {
 		return err
@@ -226,7 +226,7 @@ func (r *reading) entryAt(start int64) (int, bool) {
 
 // nameEntry reads a delta against an object by its name: one of the pack, before it or after it, or one of the tenant.
 func (r *reading) nameEntry(it entry, size int64) error {
-	var base tenants.Name
+	var base plumbing.Name
 	if _, err := io.ReadFull(r.in, base[:]); err != nil {
 		return cutOr(err)
 	}
@@ -305,19 +305,19 @@ func (r *reading) resolve(ctx context.Context) error {
 	return nil
 }
 
-func (r *reading) takeName(name tenants.Name) []int {
+func (r *reading) takeName(name plumbing.Name) []int {
 	children := r.byName[name]
 	delete(r.byName, name)
 	return children
 }
 
 // tenantBase stores an object of the tenant that deltas wait for. It does not become one of the pack.
-func (r *reading) tenantBase(ctx context.Context) (tenants.Name, int, error) {
-	var last tenants.Name
+func (r *reading) tenantBase(ctx context.Context) (plumbing.Name, int, error) {
+	var last plumbing.Name
 	for name := range r.byName {
 		last = name
 		o, err := r.base.Object(ctx, name)
-		if errors.Is(err, tenants.ErrMissing) {
+		if errors.Is(err, plumbing.ErrMissing) {
 			continue
 		}
 		if err != nil {
@@ -366,7 +366,7 @@ func (r *reading) resolveOne(base, child int) error {
 	}
 	it := &r.entries[child]
 	it.kind, it.depth, it.size = r.entries[base].kind, depth, int64(len(contents))
-	it.name = r.namer.name(tenants.Kind(it.kind), contents)
+	it.name = r.namer.name(plumbing.Kind(it.kind), contents)
 	r.waiting--
 	if was, is := r.own[it.name]; is {
 		it.at = r.entries[was].at

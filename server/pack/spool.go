@@ -45,7 +45,7 @@ func (s *spool) append(data []byte) error {
 		if s.tail == nil {
 			s.tail = make([]byte, 0, spoolBlock)
 		}
-		taken := smaller(len(data), spoolBlock-len(s.tail))
+		taken := min(len(data), spoolBlock-len(s.tail))
 		s.tail = append(s.tail, data[:taken]...)
 		s.end += int64(taken)
 		data = data[taken:]
@@ -129,9 +129,7 @@ func (s *spool) page(number int64) ([]byte, error) {
 func (s *spool) readAcross(at, size int64) ([]byte, error) {
 	data := make([]byte, size)
 	inFile := s.written() - at
-	if inFile > size {
-		inFile = size
-	}
+	inFile = min(inFile, size)
 	_, err := s.file.ReadAt(data[:inFile], at)
 	copy(data[inFile:], s.tail)
 	return data, err

@@ -9,7 +9,7 @@ import (
 	"io"
 	"os"
 
-	"gitpoold/tenants"
+	"gitpoold/plumbing"
 )
 
 // kept is a pack in a file. What follows `blocks` is guarded by the mutex of the cache.
@@ -19,7 +19,7 @@ type kept struct {
 	bytes int64
 	key   key
 	// roots are objects that reach all of the pack, which has `count` objects.
-	roots []tenants.Name
+	roots []plumbing.Name
 	count int
 	// blocks has a CRC-32C of each block of the entries.
 	blocks []uint32
@@ -30,7 +30,7 @@ type kept struct {
 // plan says how a pack answers a clone: with these objects beside it, or not at all.
 type plan struct {
 	fits   bool
-	beside tenants.Listing
+	beside plumbing.Listing
 }
 
 // Bounds of what is remembered of a pack: plans, and objects in each.
@@ -115,9 +115,9 @@ func (c *Cache) near(ctx context.Context, t Repository, clone Clone, of key) *Pa
 
 // planOf finds how a pack of what some roots reach answers a clone. It fits where the wants reach each root: then they reach what the pack has, and
 // besides exactly what they reach and the roots do not.
-func planOf(ctx context.Context, t Repository, wants, roots []tenants.Name) (plan, error) {
+func planOf(ctx context.Context, t Repository, wants, roots []plumbing.Name) (plan, error) {
 	isWanted := setOf(wants)
-	var others []tenants.Name
+	var others []plumbing.Name
 	for _, root := range roots {
 		if !isWanted[root] {
 			others = append(others, root)
@@ -125,7 +125,7 @@ func planOf(ctx context.Context, t Repository, wants, roots []tenants.Name) (pla
 	}
 	if len(others) > 0 {
 		beyond, err := t.Missing(ctx, others, wants)
-		if errors.Is(err, tenants.ErrMissing) || err == nil && beyond.Len() > 0 {
+		if errors.Is(err, plumbing.ErrMissing) || err == nil && beyond.Len() > 0 {
 			return plan{}, nil
 		}
 		if err != nil {
@@ -141,7 +141,7 @@ type Pack struct {
 	cache  *Cache
 	kept   *kept
 	file   *os.File
-	beside tenants.Listing
+	beside plumbing.Listing
 }
 
 // open opens the file of a pack. It is nil where the file is not as it was made.
@@ -166,8 +166,8 @@ func (c *Cache) open(it *kept, how plan) *Pack {
 func (p *Pack) Close() { p.file.Close() }
 
 // Kept is how many objects the kept pack has, and Beside what is missing there.
-func (p *Pack) Kept() int               { return p.kept.count }
-func (p *Pack) Beside() tenants.Listing { return p.beside }
+func (p *Pack) Kept() int                { return p.kept.count }
+func (p *Pack) Beside() plumbing.Listing { return p.beside }
 
 // A pack is far from a clone where what it lacks has so many bytes, and so large a part of its own. Then another one is made.
 const (

@@ -12,7 +12,7 @@ import (
 
 	"gitpoold/gitrun"
 	"gitpoold/pack"
-	"gitpoold/tenants"
+	"gitpoold/plumbing"
 	"gitpoold/walk"
 )
 
@@ -27,7 +27,7 @@ type wish struct {
 
 // least is the same clone with the tags alone that are not wanted, since it waits.
 func (c Clone) least() Clone {
-	tags := map[tenants.Name]tenants.Name{}
+	tags := map[plumbing.Name]plumbing.Name{}
 	for _, tag := range c.others() {
 		tags[tag] = c.Tags[tag]
 	}
@@ -223,7 +223,7 @@ func (c *Cache) reserve(bytes int64) bool {
 }
 
 // bytesOf is about how many bytes a pack of objects has that are as they are.
-func bytesOf(listing tenants.Listing) (bytes int64) {
+func bytesOf(listing plumbing.Listing) (bytes int64) {
 	for at := 0; at < listing.Len(); at++ {
 		bytes += int64(listing.Size(at)) + 32
 	}
@@ -231,11 +231,11 @@ func bytesOf(listing tenants.Listing) (bytes int64) {
 }
 
 // roots are the wants, and the tags that were listed with them.
-func (c Clone) roots(listing tenants.Listing) []tenants.Name {
-	roots, isRoot := append([]tenants.Name{}, c.Wants...), setOf(c.Wants)
+func (c Clone) roots(listing plumbing.Listing) []plumbing.Name {
+	roots, isRoot := append([]plumbing.Name{}, c.Wants...), setOf(c.Wants)
 	for at := 0; at < listing.Len(); at++ {
 		name := listing.Name(at)
-		if _, isTag := c.Tags[name]; isTag && listing.Kind(at) == tenants.Tag && !isRoot[name] {
+		if _, isTag := c.Tags[name]; isTag && listing.Kind(at) == plumbing.Tag && !isRoot[name] {
 			roots = append(roots, name)
 		}
 	}
@@ -245,8 +245,8 @@ func (c Clone) roots(listing tenants.Listing) []tenants.Name {
 // making is a pack on its way, in a bare repository of its own.
 type making struct {
 	cache   *Cache
-	listing tenants.Listing
-	roots   []tenants.Name
+	listing plumbing.Listing
+	roots   []plumbing.Name
 	folder  string
 	room    int64
 }

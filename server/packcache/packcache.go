@@ -17,8 +17,10 @@ import (
 	"context"
 	"crypto/sha256"
 	"errors"
+	"maps"
 	"os"
 	"path/filepath"
+	"slices"
 	"sort"
 	"strconv"
 	"sync"
@@ -26,6 +28,7 @@ import (
 	"time"
 
 	"gitpoold/metrics"
+	"gitpoold/plumbing"
 	"gitpoold/tenants"
 	"gitpoold/walk"
 )
@@ -35,7 +38,7 @@ type Repository interface {
 	walk.Source
 	Name() string
 	Refs(context.Context) (refs []tenants.Ref, head string, err error)
-	Entries(ctx context.Context, objects tenants.Listing, use func(entries []byte) error) error
+	Entries(ctx context.Context, objects plumbing.Listing, use func(entries []byte) error) error
 }
 
 // Config is what a cache is told.
@@ -89,14 +92,14 @@ type key [sha256.Size]byte
 
 // Clone is what a clone asks for: all that Wants reach, and those of Tags that lead to some of that. Tags has what each leads to in the end.
 type Clone struct {
-	Wants []tenants.Name
-	Tags  map[tenants.Name]tenants.Name
+	Wants []plumbing.Name
+	Tags  map[plumbing.Name]plumbing.Name
 }
 
 // key is of the wants and of the tags that are not wanted, each in order. They are told apart by how many they are.
 func (c Clone) key() (of key) {
 	digest := sha256.New()
-	for _, names := range [][]tenants.Name{append([]tenants.Name{}, c.Wants...), c.others()} {
+	for _, names := range [][]plumbing.Name{append([]plumbing.Name{}, c.Wants...), c.others()} {
 		sort.Slice(names, func(i, k int) bool { return string(names[i][:]) < string(names[k][:]) })
 		digest.Write([]byte(strconv.Itoa(len(names)) + " "))
 		for _, name := range names {
@@ -118,7 +121,7 @@ func (c Clone) isOfRefs(ctx context.Context, t Repository) bool {
 }
 
 // others are the tags that are not wanted.
-func (c Clone) others() (names []tenants.Name) {
+func (c Clone) others() (names []plumbing.Name) {
 	isWanted := setOf(c.Wants)
 	for tag := range c.Tags {
 		if !isWanted[tag] {
@@ -128,8 +131,8 @@ func (c Clone) others() (names []tenants.Name) {
 	return names
 }
 
-func setOf(names []tenants.Name) map[tenants.Name]bool {
-	set := make(map[tenants.Name]bool, len(names))
+func setOf(names []plumbing.Name) map[plumbing.Name]bool {
+	set := make(map[plumbing.Name]bool, len(names))
 	for _, name := range names {
 		set[name] = true
 	}
@@ -286,11 +289,8 @@ func (c *Cache) sweep() {
 	}
 }
 
-func (c *Cache) tenants() (names []string) {
+func (c *Cache) tenants() []string {
 	c.mutex.Lock()
 	defer c.mutex.Unlock()
-	for tenant := range c.of {
-		names = append(names, tenant)
-	}
-	return names
+	return slices.Collect(maps.Keys(c.of))
 }

@@ -5,28 +5,28 @@ import (
 	"path/filepath"
 	"testing"
 
-	"gitpoold/tenants"
+	"gitpoold/plumbing"
 )
 
 // TestKeys has clones that want the same in another order, and clones that do not want the same.
 func TestKeys(t *testing.T) {
-	a, b, c := tenants.Name{1}, tenants.Name{2}, tenants.Name{3}
-	tags := func(names ...tenants.Name) map[tenants.Name]tenants.Name {
-		all := map[tenants.Name]tenants.Name{}
+	a, b, c := plumbing.Name{1}, plumbing.Name{2}, plumbing.Name{3}
+	tags := func(names ...plumbing.Name) map[plumbing.Name]plumbing.Name {
+		all := map[plumbing.Name]plumbing.Name{}
 		for _, name := range names {
 			all[name] = c
 		}
 		return all
 	}
-	one := Clone{Wants: []tenants.Name{a, b}}
-	for _, same := range []Clone{{Wants: []tenants.Name{b, a}}, {[]tenants.Name{a, b}, tags(a)}, {[]tenants.Name{a, b}, tags(a, b)}} {
+	one := Clone{Wants: []plumbing.Name{a, b}}
+	for _, same := range []Clone{{Wants: []plumbing.Name{b, a}}, {[]plumbing.Name{a, b}, tags(a)}, {[]plumbing.Name{a, b}, tags(a, b)}} {
 		if same.key() != one.key() {
 			t.Error(same)
 		}
 	}
 	seen := map[key]bool{one.key(): true}
-	for _, other := range []Clone{{}, {Wants: []tenants.Name{a}}, {Wants: []tenants.Name{a, b, c}}, {[]tenants.Name{a}, tags(b)}, {nil, tags(a, b)},
-		{[]tenants.Name{a, b}, tags(c)}} {
+	for _, other := range []Clone{{}, {Wants: []plumbing.Name{a}}, {Wants: []plumbing.Name{a, b, c}}, {[]plumbing.Name{a}, tags(b)}, {nil, tags(a, b)},
+		{[]plumbing.Name{a, b}, tags(c)}} {
 		if seen[other.key()] {
 			t.Error(other)
 		}
@@ -42,7 +42,7 @@ func TestPlansAreBounded(t *testing.T) {
 			t.Fatal(at, len(it.plans))
 		}
 	}
-	it.remember(key{255}, plan{true, make(tenants.Listing, 29*(mostBeside+1))})
+	it.remember(key{255}, plan{true, make(plumbing.Listing, 29*(mostBeside+1))})
 	if _, isKnown := it.plan(key{255}); isKnown {
 		t.Error("a plan that is too large")
 	}

@@ -6,7 +6,7 @@ import (
 	"time"
 
 	"gitpoold/browse"
-	"gitpoold/tenants"
+	"gitpoold/plumbing"
 )
 
 // toBlame is what is read to find who brought the lines of a file.
@@ -18,7 +18,7 @@ func (v Visit) blame(ctx context.Context) (Answer, error) {
 	if err != nil {
 		return Answer{}, err
 	}
-	if f.object.Kind != tenants.Blob || f.commit == nil || v.Place.Path == "" {
+	if f.object.Kind != plumbing.Blob || f.commit == nil || v.Place.Path == "" {
 		return Answer{}, browse.ErrKind
 	}
 	page := v.blobPage(f)

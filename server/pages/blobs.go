@@ -11,7 +11,7 @@ import (
 	"unicode/utf8"
 
 	"gitpoold/browse"
-	"gitpoold/tenants"
+	"gitpoold/plumbing"
 )
 
 // Most of a file that its page shows.
@@ -37,9 +37,9 @@ func (v Visit) blob(ctx context.Context) (Answer, error) {
 		return Answer{}, err
 	}
 	switch f.object.Kind {
-	case tenants.Tree:
+	case plumbing.Tree:
 		return redirect(v.Place.At(Tree, v.Place.Revision, v.Place.Path)), nil
-	case tenants.Blob:
+	case plumbing.Blob:
 	default:
 		return Answer{}, browse.ErrKind
 	}
@@ -99,7 +99,7 @@ func (v Visit) raw(ctx context.Context) (Answer, error) {
 	if err != nil {
 		return Answer{}, err
 	}
-	if f.object.Kind != tenants.Blob {
+	if f.object.Kind != plumbing.Blob {
 		return Answer{}, browse.ErrKind
 	}
 	name := path.Base(v.Place.Path)
@@ -145,7 +145,7 @@ func (v Visit) archive(ctx context.Context) (Answer, error) {
 	if err != nil {
 		return Answer{}, err
 	}
-	if f.object.Kind != tenants.Tree {
+	if f.object.Kind != plumbing.Tree {
 		return Answer{}, browse.ErrKind
 	}
 	front := path.Base(v.Place.Tenant) + "-" + f.object.Name.String()[:10]

@@ -4,7 +4,7 @@ import (
 	"context"
 
 	"gitpoold/browse"
-	"gitpoold/tenants"
+	"gitpoold/plumbing"
 )
 
 // Most that the page of a commit shows: tags that lead to it, headers of its own, and bytes of one.
@@ -50,7 +50,7 @@ func (v Visit) commit(ctx context.Context) (Answer, error) {
 	}
 	page := &commitPage{}
 	o, err := browse.Object(ctx, v.Repository, names[0])
-	for ; err == nil && o.Kind == tenants.Tag && len(page.Tags) < mostTags; o, err = v.tagged(ctx, page, o) {
+	for ; err == nil && o.Kind == plumbing.Tag && len(page.Tags) < mostTags; o, err = v.tagged(ctx, page, o) {
 	}
 	if err != nil {
 		return Answer{}, err
@@ -58,7 +58,7 @@ func (v Visit) commit(ctx context.Context) (Answer, error) {
 	title := v.Place.Tenant + ": " + visible(shownRevision(v.Place.Revision))
 	f := frame{Title: title, Tab: Commit, Revision: v.Place.Revision}
 	switch {
-	case o.Kind == tenants.Commit:
+	case o.Kind == plumbing.Commit:
 		return v.showCommit(ctx, page, o, f)
 	case len(page.Tags) == 0:
 		return redirect(v.Place.At(Kind(o.Kind.String()), o.Name.String(), "")), nil
@@ -70,7 +70,7 @@ func (v Visit) commit(ctx context.Context) (Answer, error) {
 }
 
 // tagged notes a tag, and gives the object that it names.
-func (v Visit) tagged(ctx context.Context, page *commitPage, o tenants.Object) (tenants.Object, error) {
+func (v Visit) tagged(ctx context.Context, page *commitPage, o plumbing.Object) (plumbing.Object, error) {
 	tag, err := browse.ReadTag(o)
 	if err != nil {
 		return o, err
@@ -80,7 +80,7 @@ func (v Visit) tagged(ctx context.Context, page *commitPage, o tenants.Object) (
 	return browse.Object(ctx, v.Repository, tag.Target)
 }
 
-func (v Visit) showCommit(ctx context.Context, page *commitPage, o tenants.Object, f frame) (Answer, error) {
+func (v Visit) showCommit(ctx context.Context, page *commitPage, o plumbing.Object, f frame) (Answer, error) {
 	c, err := browse.ReadCommit(o)
 	if err != nil {
 		return Answer{}, err

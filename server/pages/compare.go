@@ -5,7 +5,7 @@ import (
 	"errors"
 
 	"gitpoold/browse"
-	"gitpoold/tenants"
+	"gitpoold/plumbing"
 )
 
 // mostDiverged is how many bytes of commits a comparison holds: those of some 60,000 commits.
@@ -79,7 +79,7 @@ func (v Visit) diverged(ctx context.Context, page *comparePage, old, new *browse
 	}
 	switch {
 	case !d.Base.IsZero() && isByBase:
-		commits, err := v.commits(ctx, []tenants.Name{d.Base})
+		commits, err := v.commits(ctx, []plumbing.Name{d.Base})
 		return commits[d.Base], err
 	case !isByBase:
 		return old, nil
@@ -89,7 +89,7 @@ func (v Visit) diverged(ctx context.Context, page *comparePage, old, new *browse
 }
 
 // listAhead lists the newest commits that the new one has beside the old one.
-func (v Visit) listAhead(ctx context.Context, page *comparePage, ahead []tenants.Name) error {
+func (v Visit) listAhead(ctx context.Context, page *comparePage, ahead []plumbing.Name) error {
 	page.Count = several(len(ahead), "commit", "commits")
 	if len(ahead) > mostCommits {
 		ahead, page.Log = ahead[:mostCommits], page.New.URL

@@ -10,7 +10,7 @@ import (
 
 	"gitpoold/browse"
 	"gitpoold/linediff"
-	"gitpoold/tenants"
+	"gitpoold/plumbing"
 )
 
 // Most that a page shows of changes, and that it reads for that.
@@ -80,10 +80,10 @@ var errFull = errors.New("the page has shown enough")
 // files compares the files one by one, as their contents come.
 func (d *differ) files(ctx context.Context) (files []*fileDiff, err error) {
 	texts := make([][2][]byte, len(d.all)) // before and after
-	var names []tenants.Name
+	var names []plumbing.Name
 	var places [][2]int // of the texts that are read
 	for at, it := range d.all {
-		for side, entry := range []browse.Entry{it.Old, it.New} {
+		for side, entry := range []plumbing.Entry{it.Old, it.New} {
 			switch {
 			case it.Old.Name == it.New.Name:
 			case entry.IsGitlink():
@@ -100,7 +100,7 @@ func (d *differ) files(ctx context.Context) (files []*fileDiff, err error) {
 			texts[at] = [2][]byte{}
 		}
 	}
-	err = d.visit.Repository.Objects(ctx, names, func(o tenants.Object) error {
+	err = d.visit.Repository.Objects(ctx, names, func(o plumbing.Object) error {
 		at := places[0]
 		texts[at[0]][at[1]] = o.Contents
 		d.read += len(o.Contents)

@@ -7,6 +7,7 @@ import (
 	"time"
 
 	"gitpoold/browse"
+	"gitpoold/plumbing"
 	"gitpoold/tenants"
 )
 
@@ -98,9 +99,9 @@ func (v Visit) refs(ctx context.Context) (Answer, error) {
 	}
 	for at, row := range rows {
 		switch name := refs[at].Name; {
-		case strings.HasPrefix(name, "refs/heads/"):
+		case strings.HasPrefix(name, plumbing.Branches):
 			page.Branches = append(page.Branches, row)
-		case strings.HasPrefix(name, "refs/tags/"):
+		case strings.HasPrefix(name, plumbing.Tags):
 			page.Tags = append(page.Tags, row)
 		default:
 			page.Others = append(page.Others, row)
@@ -141,23 +142,23 @@ func (v Visit) refRows(ctx context.Context, refs []tenants.Ref, head string) ([]
 }
 
 // commits reads commits; zeros are passed over.
-func (v Visit) commits(ctx context.Context, names []tenants.Name) (map[tenants.Name]*browse.Commit, error) {
-	read := map[tenants.Name]*browse.Commit{}
-	return read, browse.Objects(ctx, v.Repository, names, func(o tenants.Object) (err error) {
+func (v Visit) commits(ctx context.Context, names []plumbing.Name) (map[plumbing.Name]*browse.Commit, error) {
+	read := map[plumbing.Name]*browse.Commit{}
+	return read, browse.Objects(ctx, v.Repository, names, func(o plumbing.Object) (err error) {
 		read[o.Name], err = browse.ReadCommit(o)
 		return err
 	})
 }
 
 // objects reads objects in the same way.
-func (v Visit) objects(ctx context.Context, names []tenants.Name) (map[tenants.Name]tenants.Object, error) {
-	read := map[tenants.Name]tenants.Object{}
-	return read, browse.Objects(ctx, v.Repository, names, func(o tenants.Object) error { read[o.Name] = o; return nil })
+func (v Visit) objects(ctx context.Context, names []plumbing.Name) (map[plumbing.Name]plumbing.Object, error) {
+	read := map[plumbing.Name]plumbing.Object{}
+	return read, browse.Objects(ctx, v.Repository, names, func(o plumbing.Object) error { read[o.Name] = o; return nil })
 }
 
 // shortRef is the name of a ref as people say it.
 func shortRef(name string) string {
-	for _, front := range []string{"refs/heads/", "refs/tags/"} {
+	for _, front := range []string{plumbing.Branches, plumbing.Tags} {
 		if strings.HasPrefix(name, front) {
 			return name[len(front):]
 		}
@@ -191,7 +192,7 @@ func (v Visit) log(ctx context.Context) (Answer, error) {
 }
 
 // logOf reads a page of a history, of which the next one has this query and the commits with which it begins.
-func (v Visit) logOf(ctx context.Context, text string, query url.Values) (*logPage, []tenants.Name, error) {
+func (v Visit) logOf(ctx context.Context, text string, query url.Values) (*logPage, []plumbing.Name, error) {
 	from, err := v.logFrom(ctx)
 	if err != nil {
 		return nil, nil, err
@@ -231,7 +232,7 @@ const (
 	fromDigits = 16
 )
 
-func joined(names []tenants.Name) string {
+func joined(names []plumbing.Name) string {
 	words := make([]string, len(names))
 	for at, name := range names {
 		words[at] = name.String()[:fromDigits]
@@ -240,7 +241,7 @@ func joined(names []tenants.Name) string {
 }
 
 // logFrom gives the commits with which the page begins. Those that the query names may be any commits of the tenant.
-func (v Visit) logFrom(ctx context.Context) ([]tenants.Name, error) {
+func (v Visit) logFrom(ctx context.Context) ([]plumbing.Name, error) {
 	words := []string{v.Place.Revision}
 	if from := v.Query.Get("from"); from != "" {
 		words = strings.Split(from, ".")

@@ -19,8 +19,10 @@ import (
 	"time"
 
 	"gitpoold/browse"
+	"gitpoold/fair"
+	"gitpoold/faults"
+	"gitpoold/plumbing"
 	"gitpoold/tenants"
-	"gitpoold/turns"
 )
 
 // Repository is what pages ask: a tenant.
@@ -107,12 +109,12 @@ func Static(kind Kind) Answer {
 
 // The kinds of those who wait for a page.
 const (
-	visitors = turns.First
-	users    = turns.Second
+	visitors = fair.First
+	users    = fair.Second
 )
 
 // room bounds how many pages are made at once: four, of visitors two, of one address one, and of one user two.
-var room = turns.New(turns.Limits{Places: 4, OfKind: [2]int{2, 4}, OfOneOfIt: [2]int{1, 2}})
+var room = fair.New(fair.Limits{Places: 4, OfKind: [2]int{2, 4}, OfOneOfIt: [2]int{1, 2}})
 
 // How long a page waits for its turn, and how long it may be made; and how long an archive waits within that.
 const (
@@ -123,16 +125,16 @@ const (
 
 // compressed bounds how many archives are compressed at once: one for an address of visitors, and two for a user, so that none of them takes all
 // processors.
-var compressed = turns.New(turns.Limits{Places: 64, OfKind: [2]int{32, 64}, OfOneOfIt: [2]int{1, 2}})
+var compressed = fair.New(fair.Limits{Places: 64, OfKind: [2]int{32, 64}, OfOneOfIt: [2]int{1, 2}})
 
 // enter waits for a turn, at most so long, and gives the call that ends it.
-func (v Visit) enter(ctx context.Context, room *turns.Places, most time.Duration) (leave func(), err error) {
+func (v Visit) enter(ctx context.Context, room *fair.Semaphore, most time.Duration) (leave func(), err error) {
 	ctx, stop := context.WithTimeout(ctx, most)
 	defer stop()
 	if v.User == "" {
-		return room.Enter(ctx, visitors, v.Network)
+		return room.Acquire(ctx, visitors, v.Network)
 	}
-	return room.Enter(ctx, users, v.User)
+	return room.Acquire(ctx, users, v.User)
 }
 
 // Answer makes the page. Its context bounds the time in which a stream is written; the page has to be made sooner.
@@ -157,13 +159,13 @@ func (v Visit) Answer(ctx context.Context) Answer {
 
 // refusalOf says in a page why there is none.
 func (v Visit) refusalOf(err error) Answer {
-	var fault tenants.Fault
+	var fault faults.Fault
 	switch {
 	case errors.Is(err, errArchives):
 		return v.Refusal(http.StatusTooManyRequests, "Too many archives at once", "Please try again when the others have come, or take the tar.")
 	case errors.Is(err, context.DeadlineExceeded), errors.Is(err, context.Canceled):
 		return v.Refusal(http.StatusServiceUnavailable, "This took too long", "The server is busy. Please try again.")
-	case errors.Is(err, errNothing), errors.Is(err, tenants.ErrMissing), errors.As(err, &fault) && fault.Number != 90:
+	case errors.Is(err, errNothing), errors.Is(err, plumbing.ErrMissing), errors.As(err, &fault) && fault != 90:
 		return v.Refusal(http.StatusNotFound, "Nothing here", "The repository has no such revision or path.")
 	case errors.Is(err, browse.ErrTooMuch):
 		return v.Refusal(http.StatusUnprocessableEntity, "Too much", "This is more than the server reads for one page. Git shows all of it.")

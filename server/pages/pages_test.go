@@ -11,6 +11,7 @@ import (
 	"gitpoold/await"
 	"gitpoold/browse"
 	"gitpoold/pack"
+	"gitpoold/plumbing"
 	"gitpoold/tenants"
 	"gitpoold/walk"
 )
@@ -18,22 +19,22 @@ import (
 // repository has objects and refs in memory.
 type repository struct {
 	walk.Source
-	objects map[tenants.Name]tenants.Object
-	named   map[string]tenants.Name
+	objects map[plumbing.Name]plumbing.Object
+	named   map[string]plumbing.Name
 	refs    []tenants.Ref
 }
 
-func (r *repository) add(kind tenants.Kind, contents string) tenants.Name {
+func (r *repository) add(kind plumbing.Kind, contents string) plumbing.Name {
 	name := pack.NameOf(kind, []byte(contents))
-	r.objects[name] = tenants.Object{Name: name, Kind: kind, Contents: []byte(contents)}
+	r.objects[name] = plumbing.Object{Name: name, Kind: kind, Contents: []byte(contents)}
 	return name
 }
 
-func (r *repository) Objects(_ context.Context, names []tenants.Name, use func(tenants.Object) error) error {
+func (r *repository) Objects(_ context.Context, names []plumbing.Name, use func(plumbing.Object) error) error {
 	for _, name := range names {
 		o, is := r.objects[name]
 		if !is {
-			return tenants.ErrMissing
+			return plumbing.ErrMissing
 		}
 		if err := use(o); err != nil {
 			return err
@@ -47,11 +48,11 @@ func (r *repository) AskAll(_ context.Context, queries []string) (replies [][]by
 		word := strings.TrimPrefix(query, "rev-parse ")
 		name, is := r.named[word]
 		if !is && !strings.Contains(word, "~") {
-			name, is = tenants.ParseName(strings.TrimSuffix(word, "^{commit}"))
+			name, is = plumbing.ParseName(strings.TrimSuffix(word, "^{commit}"))
 		}
 		replies, errs = append(replies, []byte(name.String()+"\n")), append(errs, nil)
 		if !is {
-			errs[len(errs)-1] = tenants.ErrMissing
+			errs[len(errs)-1] = plumbing.ErrMissing
 		}
 	}
 	return replies, errs, nil
@@ -61,7 +62,7 @@ func (r *repository) Refs(context.Context) ([]tenants.Ref, string, error) {
 	return r.refs, "refs/heads/main", nil
 }
 
-func entry(mode, path string, name tenants.Name) string {
+func entry(mode, path string, name plumbing.Name) string {
 	return mode + " " + path + "\x00" + string(name[:])
 }
 
@@ -69,13 +70,13 @@ const markup = `<script>alert("x")<script>'&`
 
 // hostile has a commit whose every text is markup.
 func hostile() *repository {
-	r := &repository{objects: map[tenants.Name]tenants.Object{}, named: map[string]tenants.Name{}}
-	file := r.add(tenants.Blob, markup+"\n")
-	readme := r.add(tenants.Blob, "# "+markup+"\n"+markup+"\n\n[a](javascript:alert(1)) ![b](//x/y) [c](d/e.md#f)\n")
-	tree := r.add(tenants.Tree, entry("100644", markup, file)+entry("100644", "README.md", readme)+entry("160000", "z"+markup, file))
-	commit := r.add(tenants.Commit, fmt.Sprintf("tree %v\nauthor %s <%s> 1 +0000\ncommitter x <y> 2 +0000\n\n%s\n\n%s\n", tree,
+	r := &repository{objects: map[plumbing.Name]plumbing.Object{}, named: map[string]plumbing.Name{}}
+	file := r.add(plumbing.Blob, markup+"\n")
+	readme := r.add(plumbing.Blob, "# "+markup+"\n"+markup+"\n\n[a](javascript:alert(1)) ![b](//x/y) [c](d/e.md#f)\n")
+	tree := r.add(plumbing.Tree, entry("100644", markup, file)+entry("100644", "README.md", readme)+entry("160000", "z"+markup, file))
+	commit := r.add(plumbing.Commit, fmt.Sprintf("tree %v\nauthor %s <%s> 1 +0000\ncommitter x <y> 2 +0000\n\n%s\n\n%s\n", tree,
 		strings.NewReplacer("<", "", ">", "").Replace(markup), "a", markup, markup))
-	tag := r.add(tenants.Tag, fmt.Sprintf("object %v\ntype commit\ntag %s\n\n%s\n", commit, "t", markup))
+	tag := r.add(plumbing.Tag, fmt.Sprintf("object %v\ntype commit\ntag %s\n\n%s\n", commit, "t", markup))
 	for _, it := range []string{"HEAD^{commit}", "main^{commit}", "main", "main^{}", "refs/heads/main^{commit}", "t^{commit}"} {
 		r.named[it] = commit
 	}

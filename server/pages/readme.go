@@ -8,7 +8,7 @@ import (
 	"strings"
 
 	"gitpoold/browse"
-	"gitpoold/tenants"
+	"gitpoold/plumbing"
 )
 
 // readme is the README of a directory. HTML is set where it is Markdown that is simple enough, else Text.
@@ -25,8 +25,8 @@ const mostReadme = 256 << 10
 type Markdown func(contents []byte, resolve func(path, fragment string, isImage bool) string) (string, error)
 
 // readme reads the README among the entries of a directory: README.md before README, README.txt and others.
-func (v Visit) readme(ctx context.Context, at Place, entries []browse.Entry) (*readme, error) {
-	best, rank := browse.Entry{}, len(readmeNames)
+func (v Visit) readme(ctx context.Context, at Place, entries []plumbing.Entry) (*readme, error) {
+	best, rank := plumbing.Entry{}, len(readmeNames)
 	for _, it := range entries {
 		for n, name := range readmeNames[:rank] {
 			if it.IsBlob() && !it.IsLink() && strings.EqualFold(it.Path, name) {
@@ -38,7 +38,7 @@ func (v Visit) readme(ctx context.Context, at Place, entries []browse.Entry) (*r
 		return nil, nil
 	}
 	o, err := browse.Object(ctx, v.Repository, best.Name)
-	if err != nil || o.Kind != tenants.Blob {
+	if err != nil || o.Kind != plumbing.Blob {
 		return nil, err
 	}
 	here := at.At(Blob, at.Revision, joinedPath(at.Path, best.Path))

@@ -10,6 +10,7 @@ import (
 	"time"
 
 	"gitpoold/browse"
+	"gitpoold/plumbing"
 	"gitpoold/tenants"
 )
 
@@ -42,7 +43,7 @@ type listing struct {
 }
 
 // listing reads a tree and, on its first page, its README.
-func (v Visit) listing(ctx context.Context, at Place, tree tenants.Name, c *browse.Commit) (*listing, error) {
+func (v Visit) listing(ctx context.Context, at Place, tree plumbing.Name, c *browse.Commit) (*listing, error) {
 	o, err := browse.Object(ctx, v.Repository, tree)
 	if err != nil {
 		return nil, err
@@ -82,7 +83,7 @@ func (v Visit) listing(ctx context.Context, at Place, tree tenants.Name, c *brow
 }
 
 // latest puts beside each entry the commit that changed it last, and says of how many it has not found that.
-func (v Visit) latest(ctx context.Context, l *listing, path string, c *browse.Commit, entries []browse.Entry) error {
+func (v Visit) latest(ctx context.Context, l *listing, path string, c *browse.Commit, entries []plumbing.Entry) error {
 	names := make([]string, len(entries))
 	for at, it := range entries {
 		names[at] = it.Path
@@ -120,7 +121,7 @@ func joinedPath(folder, name string) string {
 	return folder + "/" + name
 }
 
-func rowOf(at Place, it browse.Entry) entryRow {
+func rowOf(at Place, it plumbing.Entry) entryRow {
 	row := entryRow{Name: visible(it.Path), URL: at.At(Blob, at.Revision, joinedPath(at.Path, it.Path)).URL()}
 	switch {
 	case it.IsTree():
@@ -158,8 +159,8 @@ func (v Visit) home(ctx context.Context) (Answer, error) {
 	if page.IsEmpty {
 		page.Push = v.clones("git push ", " HEAD:main")
 	}
-	page.Branches = several(counted(refs, "refs/heads/"), "branch", "branches")
-	page.Tags = several(counted(refs, "refs/tags/"), "tag", "tags")
+	page.Branches = several(counted(refs, plumbing.Branches), "branch", "branches")
+	page.Tags = several(counted(refs, plumbing.Tags), "tag", "tags")
 	c, err := headOf(ctx, v.Repository)
 	if err == nil && c != nil {
 		page.Listing, err = v.listing(ctx, v.Place.At(Tree, "HEAD", ""), c.Tree, c)
@@ -196,8 +197,8 @@ func (v Visit) clones(front string, after ...string) (commands []string) {
 // found is what a revision and a path come to. Commit is nil where the revision is no commit.
 type found struct {
 	commit *browse.Commit
-	object tenants.Object
-	entry  browse.Entry // of the path in its directory
+	object plumbing.Object
+	entry  plumbing.Entry // of the path in its directory
 }
 
 // find finds a tree or a blob.
@@ -216,7 +217,7 @@ func (v Visit) find(ctx context.Context) (f found, err error) {
 		names[1] = names[2]
 	}
 	if names[1].IsZero() {
-		return f, tenants.ErrMissing
+		return f, plumbing.ErrMissing
 	}
 	read, err := v.objects(ctx, names)
 	if f.object = read[names[1]]; err == nil && isCommit {
@@ -258,7 +259,7 @@ func (v Visit) pathCrumbs() []link {
 
 // shownRevision is a revision as people say it: all digits of a name are too many.
 func shownRevision(revision string) string {
-	if _, isName := tenants.ParseName(revision); isName {
+	if _, isName := plumbing.ParseName(revision); isName {
 		return revision[:10]
 	}
 	return shortRef(revision)
@@ -270,7 +271,7 @@ func (v Visit) tree(ctx context.Context) (Answer, error) {
 	if err != nil {
 		return Answer{}, err
 	}
-	if f.object.Kind == tenants.Blob {
+	if f.object.Kind == plumbing.Blob {
 		return redirect(v.Place.At(Blob, v.Place.Revision, v.Place.Path)), nil
 	}
 	l, err := v.listing(ctx, v.Place, f.object.Name, f.commit)

@@ -13,7 +13,7 @@ import (
 	"unicode/utf8"
 
 	"gitpoold/browse"
-	"gitpoold/tenants"
+	"gitpoold/plumbing"
 )
 
 // answerOf asks for a page of a repository.
@@ -31,7 +31,7 @@ func answerOf(t *testing.T, r Repository, place Place, query url.Values) Answer 
 func TestAFeedIsXML(t *testing.T) {
 	r := hostile()
 	bad := "]]>\x00\x01\x08\x0b\x1f\x7f\ufffe\uffff\xff\u202e &amp; </feed><!--"
-	r.named["main^{commit}"] = r.add(tenants.Commit, fmt.Sprintf("tree %v\nauthor %s <a@b> 1 +0000\ncommitter x <y> 2 +0000\n\n%s\n\n%[2]s\n",
+	r.named["main^{commit}"] = r.add(plumbing.Commit, fmt.Sprintf("tree %v\nauthor %s <a@b> 1 +0000\ncommitter x <y> 2 +0000\n\n%s\n\n%[2]s\n",
 		r.named["main:"],
 		strings.NewReplacer("<", "", ">", "", "\x00", "").Replace(bad), bad))
 	answer := answerOf(t, r, Place{Kind: Feed, Tenant: "a/b", Revision: "main"}, nil)
@@ -97,8 +97,8 @@ func TestPicturesAreSentAsWhatTheyAre(t *testing.T) {
 	for contents, kind := range map[string]string{"\x89PNG\r\n\x1a\n...": "image/png", "GIF89a<script>": "image/gif",
 		"<svg onload=alert(1)>": "text/plain; charset=utf-8",
 		"<html><script>":        "text/plain; charset=utf-8", "%PDF-1.4\x00": "application/octet-stream", "BM\x00": "application/octet-stream"} {
-		r.named["main:x"] = r.add(tenants.Blob, contents)
-		r.named["main:"] = r.add(tenants.Tree, entry("100644", "x", r.named["main:x"]))
+		r.named["main:x"] = r.add(plumbing.Blob, contents)
+		r.named["main:"] = r.add(plumbing.Tree, entry("100644", "x", r.named["main:x"]))
 		if answer := answerOf(t, r, Place{Raw, "a/b", "main", "x"}, nil); answer.Kind != kind || string(answer.Body) != contents {
 			t.Errorf("%q is sent as %s", contents, answer.Kind)
 		}

@@ -7,7 +7,8 @@ import (
 	"strings"
 
 	"gitpoold/access"
-	"gitpoold/lists"
+	"gitpoold/configfile"
+	"gitpoold/plumbing"
 )
 
 // usual are the rules of who gives none.
@@ -18,12 +19,12 @@ func FullRef(refs string) string {
 	if refs == "*" || strings.HasPrefix(refs, "refs/") {
 		return refs
 	}
-	return branches + refs
+	return plumbing.Branches + refs
 }
 
 // Rows gives the lines of a folder's file: all, or those that name a tenant.
 func Rows(folder, tenant string) (rows []string, err error) {
-	lines, err := lists.Read(filepath.Join(folder, FileName))
+	lines, err := configfile.Read(filepath.Join(folder, FileName))
 	for _, words := range lines {
 		if tenant == "" || access.Matches(words[0], tenant) {
 			rows = append(rows, strings.Join(words, " "))
@@ -48,7 +49,7 @@ func Add(folder, pattern, refs string, rules []string) error {
 			return orUnknown(err, name)
 		}
 	}
-	return lists.Change(filepath.Join(folder, FileName), func(lines []string) ([]string, error) {
+	return configfile.Change(filepath.Join(folder, FileName), func(lines []string) ([]string, error) {
 		return append(without(lines, pattern, words[1]), strings.Join(words, " ")), nil
 	})
 }
@@ -62,7 +63,7 @@ func orUnknown(err error, name string) error {
 
 // Remove takes the rules for a pattern and refs back. It is an error if there are none.
 func Remove(folder, pattern, refs string) error {
-	return lists.Change(filepath.Join(folder, FileName), func(lines []string) ([]string, error) {
+	return configfile.Change(filepath.Join(folder, FileName), func(lines []string) ([]string, error) {
 		left := without(lines, pattern, FullRef(refs))
 		if len(left) == len(lines) {
 			return nil, errors.New("nothing protects " + FullRef(refs) + " of " + pattern)

@@ -12,8 +12,9 @@ import (
 	"strings"
 
 	"gitpoold/access"
-	"gitpoold/lists"
+	"gitpoold/configfile"
 	"gitpoold/objects"
+	"gitpoold/plumbing"
 )
 
 // FileName is the name of the operator's file.
@@ -24,12 +25,6 @@ const (
 	noDelete = "no-delete"
 	noForce  = "no-force"
 	onlyWord = "only="
-)
-
-// Fronts of refs, by which refusals name them.
-const (
-	branches = "refs/heads/"
-	tags     = "refs/tags/"
 )
 
 // rule is a line of the file.
@@ -43,12 +38,12 @@ type rule struct {
 type Rules []rule
 
 // Protected answers which rules hold. Its methods may be called by many goroutines at once.
-type Protected struct{ rules *lists.Followed[Rules] }
+type Protected struct{ rules *configfile.Followed[Rules] }
 
 // Load reads the rules of a folder. `tell` gets a line for the operator where they cannot be read later on.
 func Load(folder string, tell func(format string, values ...any)) (*Protected, error) {
 	path := filepath.Join(folder, FileName)
-	followed, err := lists.Follow(func() (Rules, error) { return read(path) }, tell, path)
+	followed, err := configfile.Follow(func() (Rules, error) { return read(path) }, tell, path)
 	return &Protected{followed}, err
 }
 
@@ -99,7 +94,7 @@ func (r rule) refusal(c Change, isOneOf func(names []string) bool) (why string, 
 		return front + "deletion is not allowed", nil
 	case c.IsGone || c.IsMade || !r.noForce:
 		return "", nil
-	case strings.HasPrefix(c.Ref, tags):
+	case strings.HasPrefix(c.Ref, plumbing.Tags):
 		return front + "it is there already, and may not be moved", nil
 	}
 	isForced, err := c.IsForced()
@@ -111,9 +106,9 @@ func (r rule) refusal(c Change, isOneOf func(names []string) bool) (why string, 
 
 func kindOf(ref string) string {
 	switch {
-	case strings.HasPrefix(ref, branches):
+	case strings.HasPrefix(ref, plumbing.Branches):
 		return "branch"
-	case strings.HasPrefix(ref, tags):
+	case strings.HasPrefix(ref, plumbing.Tags):
 		return "tag"
 	}
 	return "ref"
@@ -128,17 +123,7 @@ func MatchesRef(pattern, ref string) bool {
 	return len(ref) >= len(front)+len(back) && strings.HasPrefix(ref, front) && strings.HasSuffix(ref, back)
 }
 
-func read(path string) (all Rules, err error) {
-	lines, err := lists.Read(path)
-	for _, words := range lines {
-		it, err := parse(words)
-		if err != nil {
-			return nil, fmt.Errorf("%s: %w", path, err)
-		}
-		all = append(all, it)
-	}
-	return all, err
-}
+func read(path string) ([]rule, error) { return configfile.Parse(path, parse) }
 
 // parse reads the words of a line.
 func parse(words []string) (r rule, err error) {
@@ -161,7 +146,7 @@ func parse(words []string) (r rule, err error) {
 func checkRefs(pattern string) error {
 	sample := strings.Replace(pattern, "*", "x", 1)
 	if pattern == "*" {
-		sample = branches + "x"
+		sample = plumbing.Branches + "x"
 	}
 	if !strings.HasPrefix(sample, "refs/") || objects.CheckRef(sample) != nil {
 		return fmt.Errorf("`%s` names no refs: such as main, refs/tags/v*, refs/heads/* or *", pattern)

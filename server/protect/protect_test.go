@@ -9,7 +9,7 @@ import (
 	"testing"
 
 	"gitpoold/access"
-	"gitpoold/lists"
+	"gitpoold/configfile"
 )
 
 func must(t *testing.T, err error) {
@@ -23,7 +23,7 @@ func must(t *testing.T, err error) {
 func loaded(t *testing.T, rows ...string) *Protected {
 	t.Helper()
 	folder := t.TempDir()
-	must(t, lists.Write(filepath.Join(folder, FileName), rows))
+	must(t, configfile.Write(filepath.Join(folder, FileName), rows))
 	p, err := Load(folder, func(string, ...any) {})
 	must(t, err)
 	return p
@@ -135,7 +135,7 @@ func TestAListThatIsCutKeepsWhatHeld(t *testing.T) {
 	folder := t.TempDir()
 	path := filepath.Join(folder, FileName)
 	must(t, Add(folder, "acme/site", "main", nil))
-	must(t, lists.Begin(folder, FileName))
+	must(t, configfile.Begin(folder, FileName))
 	p, err := Load(folder, func(string, ...any) {})
 	must(t, err)
 	whole, err := os.ReadFile(path)

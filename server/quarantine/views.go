@@ -16,6 +16,7 @@ import (
 	"time"
 
 	"gitpoold/pack"
+	"gitpoold/plumbing"
 	"gitpoold/tenants"
 )
 
@@ -40,7 +41,7 @@ type Views struct {
 type view struct {
 	turn    chan struct{}
 	folder  string
-	tips    []tenants.Name
+	tips    []plumbing.Name
 	packs   int
 	readers int
 	used    time.Time
@@ -154,7 +155,7 @@ func (v *Views) refresh(ctx context.Context, it *view, t tenants.Tenant, refs []
 }
 
 // write writes a pack of a tenant's objects.
-func write(ctx context.Context, t tenants.Tenant, objects tenants.Listing, to io.Writer) error {
+func write(ctx context.Context, t tenants.Tenant, objects plumbing.Listing, to io.Writer) error {
 	w := pack.NewWriter(to)
 	if err := w.Begin(objects.Len()); err != nil {
 		return err
@@ -187,8 +188,8 @@ func (g *growing) Write(data []byte) (int, error) {
 }
 
 // targets gives what refs hold, each once.
-func targets(refs []tenants.Ref) (all []tenants.Name) {
-	seen := map[tenants.Name]bool{}
+func targets(refs []tenants.Ref) (all []plumbing.Name) {
+	seen := map[plumbing.Name]bool{}
 	for _, it := range refs {
 		if !seen[it.Target] {
 			seen[it.Target] = true

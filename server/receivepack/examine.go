@@ -7,17 +7,15 @@ import (
 
 	"gitpoold/fsck"
 	"gitpoold/objects"
-	"gitpoold/tenants"
+	"gitpoold/plumbing"
 )
-
-const tagRefs = "refs/tags/"
 
 func refusal(why string) error { return &objects.Refusal{Why: why} }
 
 // examine judges each object of the pack, and what refs are to hold: what does not depend on the refs as they are.
 func (p *push) examine(ctx context.Context) error {
-	p.heads = map[tenants.Name]objects.Head{}
-	p.tags = map[tenants.Name]*objects.Tag{}
+	p.heads = map[plumbing.Name]plumbing.Head{}
+	p.tags = map[plumbing.Name]*objects.Tag{}
 	for _, step := range []func(context.Context) error{p.examineBlobs, p.examineCommits, p.examineTags, p.examineTrees} {
 		if err := step(ctx); err != nil {
 			return err
@@ -26,7 +24,7 @@ func (p *push) examine(ctx context.Context) error {
 	return p.examineRefs(ctx)
 }
 
-func (p *push) each(ctx context.Context, kind tenants.Kind, use func(at int, o tenants.Object) error) error {
+func (p *push) each(ctx context.Context, kind plumbing.Kind, use func(at int, o plumbing.Object) error) error {
 	err := p.own.Each(kind, func(at int) error {
 		o, err := p.own.ObjectAt(at)
 		if err == nil {
@@ -41,7 +39,7 @@ func (p *push) each(ctx context.Context, kind tenants.Kind, use func(at int, o t
 }
 
 func (p *push) examineBlobs(context.Context) error {
-	return p.own.Each(tenants.Blob, func(at int) error {
+	return p.own.Each(plumbing.Blob, func(at int) error {
 		if p.own.SizeAt(at) > objects.LongestData {
 			return objects.TooLong("blob", p.own.NameAt(at))
 		}
@@ -50,7 +48,7 @@ func (p *push) examineBlobs(context.Context) error {
 }
 
 func (p *push) examineCommits(ctx context.Context) error {
-	return p.each(ctx, tenants.Commit, func(_ int, o tenants.Object) error {
+	return p.each(ctx, plumbing.Commit, func(_ int, o plumbing.Object) error {
 		c, err := objects.ReadCommit(o.Name, o.Contents)
 		if err == nil {
 			err = objects.Judged(o.Name, p.Rules.Commit(o.Contents))
@@ -63,7 +61,7 @@ func (p *push) examineCommits(ctx context.Context) error {
 }
 
 func (p *push) examineTags(ctx context.Context) error {
-	return p.each(ctx, tenants.Tag, func(_ int, o tenants.Object) error {
+	return p.each(ctx, plumbing.Tag, func(_ int, o plumbing.Object) error {
 		tag, err := objects.ReadTag(o.Name, o.Contents)
 		if err == nil {
 			err = objects.Judged(o.Name, p.Rules.Tag(o.Contents, objects.IsRefName))
@@ -81,12 +79,12 @@ func nameplate(tag *objects.Tag) *objects.Tag {
 }
 
 func (p *push) examineTrees(ctx context.Context) error {
-	special := map[tenants.Name]fsck.Special{}
+	special := map[plumbing.Name]fsck.Special{}
 	below := make([]unfolded, p.own.Len())
-	err := p.each(ctx, tenants.Tree, func(at int, o tenants.Object) error {
+	err := p.each(ctx, plumbing.Tree, func(at int, o plumbing.Object) error {
 		facts, err := objects.ExamineTree(o.Name, o.Contents)
 		if err == nil {
-			err = objects.Judged(o.Name, p.Rules.Tree(o.Contents, func(blob tenants.Name, what fsck.Special) { special[blob] |= what }))
+			err = objects.Judged(o.Name, p.Rules.Tree(o.Contents, func(blob plumbing.Name, what fsck.Special) { special[blob] |= what }))
 		}
 		if !facts.HasTrees {
 			below[at] = unfoldedFiles(facts.Entries, len(o.Contents))
@@ -103,10 +101,10 @@ func (p *push) examineTrees(ctx context.Context) error {
 }
 
 // examineSpecial judges the blobs that git reads by itself.
-func (p *push) examineSpecial(ctx context.Context, special map[tenants.Name]fsck.Special) error {
+func (p *push) examineSpecial(ctx context.Context, special map[plumbing.Name]fsck.Special) error {
 	for name, what := range special {
 		o, err := p.own.Object(ctx, name)
-		if errors.Is(err, tenants.ErrMissing) {
+		if errors.Is(err, plumbing.ErrMissing) {
 			continue
 		}
 		if err == nil {
@@ -121,7 +119,7 @@ func (p *push) examineSpecial(ctx context.Context, special map[tenants.Name]fsck
 
 // examineRefs judges the names of the refs and the kinds of what they are to hold. One that is refused holds up no other.
 func (p *push) examineRefs(ctx context.Context) error {
-	p.kinds = map[tenants.Name]tenants.Kind{}
+	p.kinds = map[plumbing.Name]plumbing.Kind{}
 	for at, change := range p.changes {
 		err := checkRef(change)
 		if err == nil && !change.New.IsZero() {
@@ -151,7 +149,7 @@ func checkRef(change Change) error {
 
 func (p *push) examineTarget(ctx context.Context, change Change) error {
 	o, err := p.own.Object(ctx, change.New)
-	if errors.Is(err, tenants.ErrMissing) {
+	if errors.Is(err, plumbing.ErrMissing) {
 		return refusal("the push has not " + change.New.String() + ", and neither has the repository")
 	}
 	if err != nil {
@@ -159,20 +157,20 @@ func (p *push) examineTarget(ctx context.Context, change Change) error {
 	}
 	p.kinds[o.Name] = o.Kind
 	switch o.Kind {
-	case tenants.Commit:
+	case plumbing.Commit:
 		return nil
-	case tenants.Tag:
+	case plumbing.Tag:
 		return p.examineTagRef(change, o)
 	}
 	return refusal("a ref of gitpool holds a commit or an annotated tag, and no " + o.Kind.String())
 }
 
-func (p *push) examineTagRef(change Change, o tenants.Object) error {
+func (p *push) examineTagRef(change Change, o plumbing.Object) error {
 	tag, err := objects.ReadTag(o.Name, o.Contents)
 	if err != nil {
 		return err
 	}
-	if own := tagRefs + tag.Name; own != change.Ref {
+	if own := plumbing.Tags + tag.Name; own != change.Ref {
 		return refusal("an annotated tag is kept under its own name alone, " + strings.ToValidUTF8(own, "?"))
 	}
 	p.tags[o.Name] = nameplate(tag)

@@ -4,45 +4,47 @@ import (
 	"context"
 	"errors"
 	"fmt"
+	"maps"
+	"slices"
 	"strconv"
 
 	"gitpoold/objects"
+	"gitpoold/plumbing"
 	"gitpoold/tenants"
 )
 
 // feeding is the stream of a push, and what it has told so far.
 type feeding struct {
 	*push
-	ctx     context.Context
 	to      sink
 	scratch string
-	told    []bool                  // of the entries of the pack: the blobs that were told
-	outside map[tenants.Name]string // objects that the pack has not, and what names them
+	told    []bool                   // of the entries of the pack: the blobs that were told
+	outside map[plumbing.Name]string // objects that the pack has not, and what names them
 	trees   treeCache
 	err     error
 	// unfolded are the bytes of the lines of paths so far.
 	unfolded int64
 	// lacking are objects of which it is known that the tenant has not them, and lacks says which of them was named.
-	lacking map[tenants.Name]bool
+	lacking map[plumbing.Name]bool
 	lacks   string
 }
 
-func (p *push) feeding(ctx context.Context, to sink) *feeding {
-	return &feeding{push: p, ctx: ctx, to: to, scratch: p.scratchRef(), told: make([]bool, p.own.Len()), outside: map[tenants.Name]string{}}
+func (p *push) feeding(to sink) *feeding {
+	return &feeding{push: p, to: to, scratch: p.scratchRef(), told: make([]bool, p.own.Len()), outside: map[plumbing.Name]string{}}
 }
 
 // feed tells the stream: commits with what changed since their first parents, then tags, then refs.
 func (p *push) feed(ctx context.Context, to *tenants.Stream) error {
-	f := p.feeding(ctx, to)
-	err := f.all()
+	f := p.feeding(to)
+	err := f.all(ctx)
 	// An object that is missing is told by its name and place, and not by the number of a fault.
-	if missing := f.missing(); missing != nil && (err == nil || tenants.IsSentence(err)) {
+	if missing := f.missing(ctx); missing != nil && (err == nil || tenants.IsSentence(err)) {
 		return missing
 	}
 	return err
 }
 
-func (f *feeding) all() error {
+func (f *feeding) all(ctx context.Context) error {
 	if f.head != "" {
 		f.put("option gitpool head ", f.head, "\n")
 	}
@@ -51,19 +53,19 @@ func (f *feeding) all() error {
 		return err
 	}
 	for _, name := range order {
-		if err := f.commit(name); err != nil {
+		if err := f.commit(ctx, name); err != nil {
 			return err
 		}
 	}
 	for _, name := range tags {
-		if err := f.tag(name); err != nil {
+		if err := f.tag(ctx, name); err != nil {
 			return err
 		}
 	}
 	if len(order) > 0 {
-		f.put(resetCommand(f.scratch, tenants.Name{}))
+		f.put(resetCommand(f.scratch, plumbing.Name{}))
 	}
-	return f.setRefs(tags)
+	return f.setRefs(ctx, tags)
 }
 
 // put appends to the stream. An error stays, and expect gives it.
@@ -84,7 +86,7 @@ func (f *feeding) data(contents []byte) {
 }
 
 // expect asks for the name that mark 1 stands for, which has to be this one.
-func (f *feeding) expect(name tenants.Name) error {
+func (f *feeding) expect(name plumbing.Name) error {
 	if f.err == nil {
 		f.err = f.to.Expect(":1", name)
 	}
@@ -101,11 +103,11 @@ func (p *push) scratchRef() string {
 }
 
 // reached gives the commits of the pack that the changed refs reach, parents first, and the tags, each after what it is of.
-func (f *feeding) reached() (order, tags []tenants.Name, err error) {
-	w := topology{heads: f.heads, state: map[tenants.Name]int8{}}
+func (f *feeding) reached() (order, tags []plumbing.Name, err error) {
+	w := topology{heads: f.heads, state: map[plumbing.Name]int8{}}
 	for _, change := range f.good() {
 		tip := change.New
-		var chain []tenants.Name
+		var chain []plumbing.Name
 		for f.tags[tip] != nil && w.state[tip] == 0 {
 			w.state[tip] = left
 			chain = append(chain, tip)
@@ -121,9 +123,9 @@ func (f *feeding) reached() (order, tags []tenants.Name, err error) {
 
 // topology sorts commits, parents first.
 type topology struct {
-	heads map[tenants.Name]objects.Head
-	state map[tenants.Name]int8
-	order []tenants.Name
+	heads map[plumbing.Name]plumbing.Head
+	state map[plumbing.Name]int8
+	order []plumbing.Name
 }
 
 const (
@@ -131,8 +133,8 @@ const (
 	left    = 2
 )
 
-func (w *topology) from(tip tenants.Name) {
-	stack := []tenants.Name{tip}
+func (w *topology) from(tip plumbing.Name) {
+	stack := []plumbing.Name{tip}
 	for len(stack) > 0 {
 		top := stack[len(stack)-1]
 		head, isOwn := w.heads[top]
@@ -150,7 +152,7 @@ func (w *topology) from(tip tenants.Name) {
 	}
 }
 
-func (w *topology) leave(name tenants.Name) {
+func (w *topology) leave(name plumbing.Name) {
 	if w.state[name] == entered {
 		w.state[name] = left
 		w.order = append(w.order, name)
@@ -158,8 +160,8 @@ func (w *topology) leave(name tenants.Name) {
 }
 
 // commit tells one commit and asks for its name.
-func (f *feeding) commit(name tenants.Name) error {
-	o, err := f.own.Object(f.ctx, name)
+func (f *feeding) commit(ctx context.Context, name plumbing.Name) error {
+	o, err := f.own.Object(ctx, name)
 	if err != nil {
 		return err
 	}
@@ -167,7 +169,7 @@ func (f *feeding) commit(name tenants.Name) error {
 	if err != nil {
 		return err
 	}
-	base, err := f.baseOf(name, c)
+	base, err := f.baseOf(ctx, name, c)
 	if err != nil {
 		return err
 	}
@@ -180,25 +182,18 @@ func (f *feeding) commit(name tenants.Name) error {
 	}
 	f.data(c.Message)
 	for at, parent := range c.Parents {
-		f.put([2]string{"from ", "merge "}[smaller(at, 1)], parent.String(), "\n")
+		f.put([2]string{"from ", "merge "}[min(at, 1)], parent.String(), "\n")
 	}
-	if err := f.changeRoot(base, c.Tree, name); err != nil {
+	if err := f.changeRoot(ctx, base, c.Tree, name); err != nil {
 		return err
 	}
 	f.put("\n")
 	return f.expect(name)
 }
 
-func smaller(a, b int) int {
-	if a < b {
-		return a
-	}
-	return b
-}
-
 // baseOf gives the tree of the first parent, or the empty tree. All parents have to be in the pack or the tenant's.
-func (f *feeding) baseOf(name tenants.Name, c *objects.Commit) (tenants.Name, error) {
-	base := objects.EmptyTree
+func (f *feeding) baseOf(ctx context.Context, name plumbing.Name, c *objects.Commit) (plumbing.Name, error) {
+	base := plumbing.EmptyTree
 	for at, parent := range c.Parents {
 		head, isOwn := f.heads[parent]
 		if !isOwn && at > 0 {
@@ -206,15 +201,15 @@ func (f *feeding) baseOf(name tenants.Name, c *objects.Commit) (tenants.Name, er
 			continue
 		}
 		if !isOwn {
-			o, err := f.t.Object(f.ctx, parent)
-			if errors.Is(err, tenants.ErrMissing) {
+			o, err := f.t.Object(ctx, parent)
+			if errors.Is(err, plumbing.ErrMissing) {
 				f.note(parent, "commit "+name.String()[:12]+" has the parent")
 				return base, err
 			}
 			if err != nil {
 				return base, err
 			}
-			head = objects.ReadHead(o.Contents)
+			head = plumbing.ReadHead(o.Contents)
 		}
 		if at == 0 {
 			base = head.Tree
@@ -224,7 +219,7 @@ func (f *feeding) baseOf(name tenants.Name, c *objects.Commit) (tenants.Name, er
 }
 
 // note remembers that the pack has not an object, and what names it.
-func (f *feeding) note(name tenants.Name, what string) {
+func (f *feeding) note(name plumbing.Name, what string) {
 	if f.outside[name] == "" {
 		f.outside[name] = what
 	}
@@ -233,13 +228,13 @@ func (f *feeding) note(name tenants.Name, what string) {
 	}
 }
 
-func notHere(what string, name tenants.Name) string {
+func notHere(what string, name plumbing.Name) string {
 	return what + " " + name.String() + ", which is not here: push from a repository that is whole and not shallow"
 }
 
 // missing gives a *Refusal where an object that the pack has not is not the tenant's either.
-func (f *feeding) missing() error {
-	gone, err := f.gone()
+func (f *feeding) missing(ctx context.Context) error {
+	gone, err := f.gone(ctx)
 	for name := range gone {
 		return refusal(notHere(f.outside[name], name))
 	}
@@ -247,13 +242,10 @@ func (f *feeding) missing() error {
 }
 
 // gone finds which objects that the pack has not the tenant has not either.
-func (f *feeding) gone() (map[tenants.Name]bool, error) {
-	names := make([]tenants.Name, 0, len(f.outside))
-	for name := range f.outside {
-		names = append(names, name)
-	}
-	has, err := f.t.Has(f.ctx, names)
-	gone := map[tenants.Name]bool{}
+func (f *feeding) gone(ctx context.Context) (map[plumbing.Name]bool, error) {
+	names := slices.Collect(maps.Keys(f.outside))
+	has, err := f.t.Has(ctx, names)
+	gone := map[plumbing.Name]bool{}
 	for at, name := range names {
 		if err == nil && !has[at] {
 			gone[name] = true
@@ -263,19 +255,19 @@ func (f *feeding) gone() (map[tenants.Name]bool, error) {
 }
 
 // tag tells an annotated tag and asks for its name. A blob that it is of is told before it.
-func (f *feeding) tag(name tenants.Name) error {
+func (f *feeding) tag(ctx context.Context, name plumbing.Name) error {
 	tag := f.tags[name]
 	at, isOwn := f.own.Find(tag.Target)
 	if !isOwn {
 		f.note(tag.Target, "tag "+name.String()[:12]+" is of")
 	} else if kind := f.own.KindAt(at); kind.String() != tag.Kind {
 		return refusal("tag " + name.String()[:12] + " says that it is of a " + tag.Kind + ", and it is of a " + kind.String())
-	} else if kind == tenants.Blob {
+	} else if kind == plumbing.Blob {
 		if err := f.blob(at); err != nil {
 			return err
 		}
 	}
-	command, err := f.tagCommand(name, "mark :1\n")
+	command, err := f.tagCommand(ctx, name, "mark :1\n")
 	if err != nil {
 		return err
 	}
@@ -284,8 +276,8 @@ func (f *feeding) tag(name tenants.Name) error {
 }
 
 // tagCommand reads a tag and gives the command that makes it, with the line of its mark, if any.
-func (f *feeding) tagCommand(name tenants.Name, mark string) (string, error) {
-	o, err := f.own.Object(f.ctx, name)
+func (f *feeding) tagCommand(ctx context.Context, name plumbing.Name, mark string) (string, error) {
+	o, err := f.own.Object(ctx, name)
 	if err != nil {
 		return "", err
 	}
@@ -321,10 +313,10 @@ func (f *feeding) blob(at int) error {
 
 // setRefs tells the refs. A tag sets its own ref at the next checkpoint, whatever came since; so what takes it back comes after one,
 // with the last piece.
-func (f *feeding) setRefs(tags []tenants.Name) error {
+func (f *feeding) setRefs(ctx context.Context, tags []plumbing.Name) error {
 	restored := f.restored(tags)
 	for _, change := range f.good() {
-		if _, is := restored[change.Ref]; !is && f.now(change.Ref) == change.New && f.kinds[change.New] != tenants.Tag {
+		if _, is := restored[change.Ref]; !is && f.now(change.Ref) == change.New && f.kinds[change.New] != plumbing.Tag {
 			f.put(resetCommand(change.Ref, change.New))
 		}
 	}
@@ -333,7 +325,7 @@ func (f *feeding) setRefs(tags []tenants.Name) error {
 	}
 	last := "checkpoint\n"
 	for ref, target := range restored {
-		command, err := f.restoring(ref, target)
+		command, err := f.restoring(ctx, ref, target)
 		if err != nil {
 			return err
 		}
@@ -344,10 +336,10 @@ func (f *feeding) setRefs(tags []tenants.Name) error {
 }
 
 // restored gives the refs that a told tag sets to something else than they are to hold, and what that is.
-func (f *feeding) restored(tags []tenants.Name) map[string]tenants.Name {
-	restored := map[string]tenants.Name{}
+func (f *feeding) restored(tags []plumbing.Name) map[string]plumbing.Name {
+	restored := map[string]plumbing.Name{}
 	for _, name := range tags {
-		ref := tagRefs + f.tags[name].Name
+		ref := plumbing.Tags + f.tags[name].Name
 		if target := f.now(ref); target != name {
 			restored[ref] = target
 		}
@@ -356,17 +348,17 @@ func (f *feeding) restored(tags []tenants.Name) map[string]tenants.Name {
 }
 
 // restoring gives the command that lets a ref hold what it is to hold.
-func (f *feeding) restoring(ref string, target tenants.Name) (string, error) {
+func (f *feeding) restoring(ctx context.Context, ref string, target plumbing.Name) (string, error) {
 	if target.IsZero() {
 		return resetCommand(ref, target), nil
 	}
-	o, err := f.own.Object(f.ctx, target)
-	if err != nil || o.Kind != tenants.Tag {
+	o, err := f.own.Object(ctx, target)
+	if err != nil || o.Kind != plumbing.Tag {
 		return resetCommand(ref, target), err
 	}
-	return f.tagCommand(target, "")
+	return f.tagCommand(ctx, target, "")
 }
 
-func resetCommand(ref string, target tenants.Name) string {
+func resetCommand(ref string, target plumbing.Name) string {
 	return "reset " + ref + "\nfrom " + target.String() + "\n\n"
 }

@@ -2,6 +2,7 @@ package receivepack
 
 import (
 	"context"
+	"errors"
 	"io"
 
 	"gitpoold/pktline"
@@ -30,7 +31,7 @@ func (p *push) askHooks(ctx context.Context) error {
 	if err == nil {
 		err = p.judge(ctx, refs)
 	}
-	if err == errNothing {
+	if errors.Is(err, errNothing) {
 		// It is judged again when the refs cannot move.
 		return nil
 	}

@@ -5,20 +5,19 @@ import (
 	"sort"
 	"strings"
 
+	"gitpoold/plumbing"
 	"gitpoold/tenants"
 )
-
-const branches = "refs/heads/"
 
 // standing is what refs are while a push is judged: what they were, and what the changes before have made of them.
 type standing struct {
 	was   tenants.Refs
-	moved map[string]tenants.Name
+	moved map[string]plumbing.Name
 	made  []string // names of refs that the push may make, in order
 }
 
 func (s *standing) begin(was tenants.Refs, changes []Change) {
-	s.was, s.moved, s.made = was, map[string]tenants.Name{}, nil
+	s.was, s.moved, s.made = was, map[string]plumbing.Name{}, nil
 	for _, change := range changes {
 		if !change.New.IsZero() {
 			s.made = append(s.made, change.Ref)
@@ -28,7 +27,7 @@ func (s *standing) begin(was tenants.Refs, changes []Change) {
 }
 
 // now gives what a ref holds after the changes so far.
-func (s *standing) now(ref string) tenants.Name {
+func (s *standing) now(ref string) plumbing.Name {
 	if target, is := s.moved[ref]; is {
 		return target
 	}
@@ -120,10 +119,10 @@ func (p *push) headAfter(head string) (after string) {
 		return ""
 	}
 	for _, change := range p.good() {
-		if !strings.HasPrefix(change.Ref, branches) || p.now(change.Ref).IsZero() {
+		if !strings.HasPrefix(change.Ref, plumbing.Branches) || p.now(change.Ref).IsZero() {
 			continue
 		}
-		if change.Ref == branches+"master" {
+		if change.Ref == plumbing.Branches+"master" {
 			return change.Ref
 		}
 		if after == "" || change.Ref < after {

@@ -7,6 +7,7 @@ import (
 	"strings"
 	"testing"
 
+	"gitpoold/plumbing"
 	"gitpoold/tenants"
 )
 
@@ -19,12 +20,12 @@ const (
 var (
 	second  = commitOf(files, "second", root)
 	third   = commitOf(files, "third", second)
-	lost    = object{tenants.Blob, "in no pack\n"}
-	holed   = object{tenants.Tree, entryOf("100644", "lost", lost)}
+	lost    = object{plumbing.Blob, "in no pack\n"}
+	holed   = object{plumbing.Tree, entryOf("100644", "lost", lost)}
 	onHole  = commitOf(holed, "on a hole", root)
 	afterIt = commitOf(files, "after the hole", onHole)
 	tagOf   = func(o object, tag string) object {
-		return object{tenants.Tag, fmt.Sprintf("object %v\ntype commit\ntag %s\ntagger A <a@b> 1 +0000\n\nm\n", o.name(), tag)}
+		return object{plumbing.Tag, fmt.Sprintf("object %v\ntype commit\ntag %s\ntagger A <a@b> 1 +0000\n\nm\n", o.name(), tag)}
 	}
 )
 
@@ -76,8 +77,8 @@ func TestOneRefIsRefusedAlone(t *testing.T) {
 func TestOnlyRefsOfWhatIsMissingAreRefused(t *testing.T) {
 	it := tenant(t)
 	v1, v2 := tagOf(afterIt, "v1"), tagOf(second, "v2")
-	wrong := commitOf(object{tenants.Tree, entryOf("100644", "f", files)}, "a file that is a directory")
-	wrongTree := object{tenants.Tree, entryOf("100644", "f", files)}
+	wrong := commitOf(object{plumbing.Tree, entryOf("100644", "f", files)}, "a file that is a directory")
+	wrongTree := object{plumbing.Tree, entryOf("100644", "f", files)}
 	request := []string{creates("refs/heads/hole", onHole), creates("refs/heads/after", afterIt), creates("refs/heads/main", root),
 		creates("refs/heads/second", second), creates("refs/tags/v1", v1), creates("refs/tags/v2", v2), creates("refs/heads/wrong", wrong)}
 	objects := packed(root, files, file, second, holed, onHole, afterIt, v1, v2, wrong, wrongTree)
@@ -217,7 +218,7 @@ func unfolding(levels int, leaf object) (objects []object) {
 	below, mode := leaf, "100644"
 	objects = append(objects, leaf)
 	for ; levels > 0; levels-- {
-		below = object{tenants.Tree, entryOf(mode, "a", below) + entryOf(mode, "b", below)}
+		below = object{plumbing.Tree, entryOf(mode, "a", below) + entryOf(mode, "b", below)}
 		objects, mode = append(objects, below), "40000"
 	}
 	return append(objects, commitOf(below, "unfolds"))
@@ -234,7 +235,7 @@ func TestWhatUnfoldsIsBounded(t *testing.T) {
 	var objects []object
 	var last object
 	for at := 0; at < 12; at++ {
-		more := unfolding(12, object{tenants.Blob, fmt.Sprintf("%d\n", at)})
+		more := unfolding(12, object{plumbing.Blob, fmt.Sprintf("%d\n", at)})
 		tree := more[len(more)-2]
 		commit := commitOf(tree, "one of them")
 		if at > 0 {
@@ -255,15 +256,15 @@ func TestCopiesOfDirectoriesAreNoAttack(t *testing.T) {
 	var entries, copies strings.Builder
 	objects := []object{}
 	for at := 0; at < 300; at++ {
-		it := object{tenants.Blob, fmt.Sprintf("%d\n", at)}
+		it := object{plumbing.Blob, fmt.Sprintf("%d\n", at)}
 		objects = append(objects, it)
 		entries.WriteString(entryOf("100644", fmt.Sprintf("a_name_of_a_file_%03d", at), it))
 	}
-	inner := object{tenants.Tree, entries.String()}
+	inner := object{plumbing.Tree, entries.String()}
 	for at := 0; at < 200; at++ {
 		copies.WriteString(entryOf("40000", fmt.Sprintf("a_name_of_a_copy_%03d", at), inner))
 	}
-	outer := object{tenants.Tree, copies.String()}
+	outer := object{plumbing.Tree, copies.String()}
 	commit := commitOf(outer, "copies")
 	it := tenant(t)
 	_, report := pushed(t, it, asking(bands, creates("refs/heads/main", commit))+packed(append(objects, inner, outer, commit)...))

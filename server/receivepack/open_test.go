@@ -16,6 +16,7 @@ import (
 	"gitpoold/await"
 	"gitpoold/pack"
 	"gitpoold/pktline"
+	"gitpoold/plumbing"
 	"gitpoold/store"
 	"gitpoold/tenants"
 )
@@ -47,11 +48,11 @@ func tenant(t *testing.T) tenants.Tenant {
 
 // object is an object of a pack that a test makes.
 type object struct {
-	kind     tenants.Kind
+	kind     plumbing.Kind
 	contents string
 }
 
-func (o object) name() tenants.Name { return pack.NameOf(o.kind, []byte(o.contents)) }
+func (o object) name() plumbing.Name { return pack.NameOf(o.kind, []byte(o.contents)) }
 
 // packed is a pack of objects.
 func packed(objects ...object) string {
@@ -74,11 +75,11 @@ func packed(objects ...object) string {
 const people = "author A <a@b> 1 +0000\ncommitter A <a@b> 1 +0000\n"
 
 var (
-	file     = object{tenants.Blob, "contents\n"}
-	files    = object{tenants.Tree, entryOf("100644", "f", file)}
+	file     = object{plumbing.Blob, "contents\n"}
+	files    = object{plumbing.Tree, entryOf("100644", "f", file)}
 	root     = commitOf(files, "root")
-	signed   = object{tenants.Commit, fmt.Sprintf("tree %v\n%sgpgsig x\n\nsigned\n", files.name(), people)}
-	nameless = object{tenants.Blob, "of no tree\n"}
+	signed   = object{plumbing.Commit, fmt.Sprintf("tree %v\n%sgpgsig x\n\nsigned\n", files.name(), people)}
+	nameless = object{plumbing.Blob, "of no tree\n"}
 )
 
 func entryOf(mode, path string, o object) string {
@@ -91,15 +92,17 @@ func commitOf(tree object, message string, parents ...object) object {
 	for _, it := range parents {
 		text += fmt.Sprintf("parent %v\n", it.name())
 	}
-	return object{tenants.Commit, text + people + "\n" + message + "\n"}
+	return object{plumbing.Commit, text + people + "\n" + message + "\n"}
 }
 
 // creates is the line of a change that makes a ref, and deletes that of one that takes it away.
-func creates(ref string, o object) string { return changes(ref, tenants.Name{}, o.name()) }
+func creates(ref string, o object) string { return changes(ref, plumbing.Name{}, o.name()) }
 
-func deletes(ref string, o object) string { return changes(ref, o.name(), tenants.Name{}) }
+func deletes(ref string, o object) string { return changes(ref, o.name(), plumbing.Name{}) }
 
-func changes(ref string, old, new tenants.Name) string { return fmt.Sprintf("%v %v %s", old, new, ref) }
+func changes(ref string, old, new plumbing.Name) string {
+	return fmt.Sprintf("%v %v %s", old, new, ref)
+}
 
 // asking is a request with capabilities, up to its pack.
 func asking(can string, first string, more ...string) string {

@@ -4,8 +4,8 @@ import (
 	"context"
 	"errors"
 
+	"gitpoold/plumbing"
 	"gitpoold/protect"
-	"gitpoold/tenants"
 )
 
 // protects gives a *Refusal where the operator protects a ref from this change. What the ref was is what the client says: where that is not so, the
@@ -26,7 +26,7 @@ func (p *push) isForced(ctx context.Context, change Change) (bool, error) {
 		return !isReached, nil
 	}
 	reaches, err := p.t.Reaches(ctx, edge, change.Old)
-	if errors.Is(err, tenants.ErrMissing) {
+	if errors.Is(err, plumbing.ErrMissing) {
 		// The ref cannot hold it now, and might when the refs are asked again.
 		return true, nil
 	}
@@ -34,8 +34,8 @@ func (p *push) isForced(ctx context.Context, change Change) (bool, error) {
 }
 
 // edgeOf walks from a commit through those of the pack, and gives the parents that the pack has not; or tells that another commit is among all these.
-func (p *push) edgeOf(from, wanted tenants.Name) (edge []tenants.Name, isReached bool) {
-	seen, rest := map[tenants.Name]bool{from: true}, []tenants.Name{from}
+func (p *push) edgeOf(from, wanted plumbing.Name) (edge []plumbing.Name, isReached bool) {
+	seen, rest := map[plumbing.Name]bool{from: true}, []plumbing.Name{from}
 	for len(rest) > 0 {
 		at := rest[len(rest)-1]
 		rest = rest[:len(rest)-1]

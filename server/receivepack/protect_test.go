@@ -11,9 +11,9 @@ import (
 	"strings"
 	"testing"
 
-	"gitpoold/objects"
 	"gitpoold/pack"
 	"gitpoold/pktline"
+	"gitpoold/plumbing"
 	"gitpoold/protect"
 	"gitpoold/tenants"
 )
@@ -58,7 +58,7 @@ func TestForcedPushesAreKnown(t *testing.T) {
 			err = p.own.Read(background, strings.NewReader(packed(way.more...)))
 		}
 		if err == nil {
-			p.heads = map[tenants.Name]objects.Head{}
+			p.heads = map[plumbing.Name]plumbing.Head{}
 			err = p.examineCommits(background)
 		}
 		if err != nil {
@@ -139,8 +139,8 @@ func TestAPackForHooksIsGits(t *testing.T) {
 	if err != nil {
 		t.Skip("there is no git")
 	}
-	large := object{tenants.Blob, strings.Repeat("0123456789abcdef", 1<<17)}
-	tag, empty := tagOf(root, "v1"), object{tenants.Blob, ""}
+	large := object{plumbing.Blob, strings.Repeat("0123456789abcdef", 1<<17)}
+	tag, empty := tagOf(root, "v1"), object{plumbing.Blob, ""}
 	q, err := pack.NewQuarantine(t.TempDir(), noBase{}, pack.Usual)
 	if err != nil {
 		t.Fatal(err)

@@ -16,6 +16,7 @@ import (
 	"gitpoold/objects"
 	"gitpoold/pack"
 	"gitpoold/pktline"
+	"gitpoold/plumbing"
 	"gitpoold/tenants"
 	"gitpoold/uploadpack"
 )
@@ -175,24 +176,24 @@ func TestLinesOfAPushAreBounded(t *testing.T) {
 	runtime.KeepAlive(q)
 }
 
-func name(digit byte) (n tenants.Name) {
+func name(digit byte) (n plumbing.Name) {
 	n[0] = digit
 	return n
 }
 
 func TestCommitsAreSortedParentsFirst(t *testing.T) {
-	heads := map[tenants.Name]objects.Head{}
+	heads := map[plumbing.Name]plumbing.Head{}
 	for at, parents := range map[byte][]byte{1: nil, 2: {1}, 3: {1, 9}, 4: {3, 2}, 5: {4}, 6: {1}} {
-		head := objects.Head{}
+		head := plumbing.Head{}
 		for _, parent := range parents {
 			head.Parents = append(head.Parents, name(parent))
 		}
 		heads[name(at)] = head
 	}
-	w := topology{heads: heads, state: map[tenants.Name]int8{}}
+	w := topology{heads: heads, state: map[plumbing.Name]int8{}}
 	w.from(name(5))
 	w.from(name(4))
-	place := map[tenants.Name]int{}
+	place := map[plumbing.Name]int{}
 	for at, it := range w.order {
 		place[it] = at + 1
 	}
@@ -211,8 +212,8 @@ func TestCommitsAreSortedParentsFirst(t *testing.T) {
 // noBase is a tenant without objects.
 type noBase struct{}
 
-func (noBase) Object(context.Context, tenants.Name) (tenants.Object, error) {
-	return tenants.Object{}, tenants.ErrMissing
+func (noBase) Object(context.Context, plumbing.Name) (plumbing.Object, error) {
+	return plumbing.Object{}, plumbing.ErrMissing
 }
 
 // packOfTags is a pack of so many tags, each with a message of so many bytes, which deflate to nearly nothing.
@@ -223,7 +224,7 @@ func packOfTags(count, bytesOfEach int) []byte {
 	for at := 0; at < count; at++ {
 		text := fmt.Sprintf("object %s\ntype commit\ntag v%d\n\n%s", ones, at, strings.Repeat("m", bytesOfEach))
 		entry.Reset()
-		entry.Write(binary.AppendUvarint([]byte{byte(tenants.Tag)<<4 | byte(len(text)&15) | 0x80}, uint64(len(text)>>4)))
+		entry.Write(binary.AppendUvarint([]byte{byte(plumbing.Tag)<<4 | byte(len(text)&15) | 0x80}, uint64(len(text)>>4)))
 		deflater := zlib.NewWriter(&entry)
 		_, _ = deflater.Write([]byte(text))
 		_ = deflater.Close()
@@ -244,7 +245,7 @@ func TestTagsAreNotHeldInMemory(t *testing.T) {
 	if err := q.Read(context.Background(), bytes.NewReader(packOfTags(count, each))); err != nil {
 		t.Fatal(err)
 	}
-	p := &push{own: q, tags: map[tenants.Name]*objects.Tag{}}
+	p := &push{own: q, tags: map[plumbing.Name]*objects.Tag{}}
 	before := held()
 	if err := p.examineTags(context.Background()); err != nil || len(p.tags) != count {
 		t.Fatal(len(p.tags), err)
@@ -276,13 +277,13 @@ func TestPairs(t *testing.T) {
 	before := tree("100644 a1", "40000 b2", "100644 b.c3", "100644 d4")
 	after := tree("100644 a9", "100644 b2", "100644 b.c3", "40000 d4", "100644 e5")
 	var got []string
-	err := pair(sorted(before), sorted(after), func(old, new *objects.Entry) error {
+	err := pair(sorted(before), sorted(after), func(old, new *plumbing.Entry) error {
 		text := ""
-		for _, it := range []*objects.Entry{old, new} {
+		for _, it := range []*plumbing.Entry{old, new} {
 			if it == nil {
 				text += "- "
 			} else {
-				text += string(it.Mode) + string(it.Path) + string(it.Name[:1]) + " "
+				text += it.Mode + it.Path + string(it.Name[:1]) + " "
 			}
 		}
 		got = append(got, text)
@@ -295,14 +296,14 @@ func TestPairs(t *testing.T) {
 }
 
 // sorted puts entries into the order of trees.
-func sorted(contents []byte) (out []byte) {
-	var entries []objects.Entry
-	for entry, rest, ok := objects.NextEntry(contents); ok; entry, rest, ok = objects.NextEntry(rest) {
+func sorted(contents []byte) (out string) {
+	var entries []plumbing.Entry
+	for entry, rest, ok := plumbing.NextEntry(string(contents)); ok; entry, rest, ok = plumbing.NextEntry(rest) {
 		entries = append(entries, entry)
 	}
-	sort.Slice(entries, func(i, j int) bool { return objects.CompareKeys(entries[i], entries[j]) < 0 })
+	sort.Slice(entries, func(i, j int) bool { return plumbing.CompareKeys(entries[i], entries[j]) < 0 })
 	for _, entry := range entries {
-		out = append(out, string(entry.Mode)+" "+string(entry.Path)+"\x00"+string(entry.Name[:])...)
+		out += entry.Mode + " " + entry.Path + "\x00" + string(entry.Name[:])
 	}
 	return out
 }
@@ -324,7 +325,7 @@ func FuzzRequest(f *testing.F) {
 func FuzzPair(f *testing.F) {
 	f.Add(tree("100644 a1", "40000 b2"), tree("100644 b2"))
 	f.Fuzz(func(t *testing.T, before, after []byte) {
-		_ = pair(before, after, func(old, new *objects.Entry) error {
+		_ = pair(string(before), string(after), func(old, new *plumbing.Entry) error {
 			if old == nil && new == nil {
 				t.Fatal("a pair of nothing")
 			}

@@ -9,7 +9,9 @@ import (
 	"io"
 	"strings"
 
+	"gitpoold/objects"
 	"gitpoold/pktline"
+	"gitpoold/plumbing"
 	"gitpoold/tenants"
 	"gitpoold/uploadpack"
 )
@@ -33,12 +35,12 @@ func Advertise(ctx context.Context, t tenants.Tenant, out *pktline.Writer, versi
 // Change is what one ref is to become. Old is what the client believes it to be; a zero name is no object.
 type Change struct {
 	Ref      string
-	Old, New tenants.Name
+	Old, New plumbing.Name
 }
 
 // Limits of a request beside its pack.
 const (
-	mostChanges = 65_536 // as many as a tenant may have refs
+	mostChanges = objects.MostRefs
 	mostOptions = 1_024
 	mostLines   = 32 << 20
 )
@@ -101,7 +103,7 @@ func (q *request) each(reader *pktline.Reader, take func(line string) error) err
 // skim looks at a line of a push that is refused for whether a pack follows.
 func (q *request) skim(line string) {
 	if parts := strings.SplitN(line, " ", 3); len(parts) == 3 {
-		new, isNew := tenants.ParseName(parts[1])
+		new, isNew := plumbing.ParseName(parts[1])
 		q.hasPack = q.hasPack || isNew && !new.IsZero()
 	}
 }
@@ -136,8 +138,8 @@ func (q *request) line(line string) error {
 	if len(parts) < 3 {
 		return refused("a push has a malformed line: %s", pktline.Show([]byte(line)))
 	}
-	old, isOld := tenants.ParseName(parts[0])
-	new, isNew := tenants.ParseName(parts[1])
+	old, isOld := plumbing.ParseName(parts[0])
+	new, isNew := plumbing.ParseName(parts[1])
 	if !isOld || !isNew {
 		return refused("a push has a malformed line: %s", pktline.Show([]byte(line)))
 	}

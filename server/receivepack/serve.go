@@ -13,6 +13,7 @@ import (
 	"gitpoold/objects"
 	"gitpoold/pack"
 	"gitpoold/pktline"
+	"gitpoold/plumbing"
 	"gitpoold/protect"
 	"gitpoold/tenants"
 	"gitpoold/uploadpack"
@@ -96,11 +97,11 @@ type push struct {
 	t     tenants.Tenant
 	out   *pktline.Writer
 	own   *pack.Quarantine
-	heads map[tenants.Name]objects.Head // of the commits in the pack
-	tags  map[tenants.Name]*objects.Tag // in the pack, or held by a ref of this push; without their taggers and messages
-	kinds map[tenants.Name]tenants.Kind // of what refs are to hold
-	unfit []string                      // why a change is refused whatever the refs are, at its place among the changes, or nothing
-	bad   []string                      // why it is refused
+	heads map[plumbing.Name]plumbing.Head // of the commits in the pack
+	tags  map[plumbing.Name]*objects.Tag  // in the pack, or held by a ref of this push; without their taggers and messages
+	kinds map[plumbing.Name]plumbing.Kind // of what refs are to hold
+	unfit []string                        // why a change is refused whatever the refs are, at its place among the changes, or nothing
+	bad   []string                        // why it is refused
 	standing
 	head string // what HEAD is to name, or nothing
 
@@ -144,7 +145,7 @@ func (p *push) carryOut(ctx context.Context, in io.Reader) error {
 			err = p.attempt(ctx)
 		}
 	}
-	if err != nil && err != errNothing {
+	if err != nil && !errors.Is(err, errNothing) {
 		p.refuseAll(sentence(err))
 		p.failed = err
 	}

@@ -2,17 +2,14 @@ package receivepack
 
 import (
 	"gitpoold/objects"
-	"gitpoold/tenants"
+	"gitpoold/plumbing"
 	"gitpoold/uploadpack"
 )
 
 // A push is told path by path. A tree that has another one twice, and so on, has few bytes and more paths than there is room for.
-const (
-	// mostFiles is how many files a branch may have: docs/FORMATS.md.
-	mostFiles = 1_048_576
-	// pathCost is what the line of a file has beside its path.
-	pathCost = 51
-)
+
+// pathCost is what the line of a file has beside its path.
+const pathCost = 51
 
 // The lines of paths may have so many bytes, and so many for each byte that the objects of the push have.
 var leastUnfolded int64 = 32 << 20
@@ -33,11 +30,11 @@ type unfolded struct {
 
 // unfoldedFiles is what a tree of so many files and bytes unfolds to. An entry has 28 bytes beside its path.
 func unfoldedFiles(files, bytes int) unfolded {
-	return unfolded{int32(smaller(files, mostFiles+1)), int64(bytes-28*files) + pathCost*int64(files)}
+	return unfolded{int32(min(files, objects.MostFiles+1)), int64(bytes-28*files) + pathCost*int64(files)}
 }
 
 // add adds what stands at one path.
-func (u *unfolded) add(below unfolded, path []byte) {
+func (u *unfolded) add(below unfolded, path string) {
 	u.files += below.files
 	u.bytes += below.bytes + int64(below.files)*int64(len(path)+1)
 }
@@ -45,12 +42,12 @@ func (u *unfolded) add(below unfolded, path []byte) {
 // countFiles refuses commits with more files than a branch may have, and those that unfold to too much. What is below trees stands at their places
 // as far as it is known; no files are none.
 func (p *push) countFiles(below []unfolded) error {
-	return p.own.Each(tenants.Commit, func(at int) error {
+	return p.own.Each(plumbing.Commit, func(at int) error {
 		found, err := p.unfold(p.heads[p.own.NameAt(at)].Tree, below, 0)
 		switch {
 		case err != nil:
 			return err
-		case found.files > mostFiles:
+		case found.files > objects.MostFiles:
 			return refusal("a commit has more than 1,048,576 files")
 		case found.bytes > p.mostUnfolded():
 			return errUnfolds
@@ -60,9 +57,9 @@ func (p *push) countFiles(below []unfolded) error {
 }
 
 // unfold counts what is below a tree of the pack. Directories of the tenant count as a file.
-func (p *push) unfold(tree tenants.Name, below []unfolded, depth int) (found unfolded, err error) {
+func (p *push) unfold(tree plumbing.Name, below []unfolded, depth int) (found unfolded, err error) {
 	at, isOwn := p.own.Find(tree)
-	if !isOwn || p.own.KindAt(at) != tenants.Tree {
+	if !isOwn || p.own.KindAt(at) != plumbing.Tree {
 		return unfolded{1, pathCost}, nil
 	}
 	if depth > objects.MostComponents {
@@ -75,7 +72,7 @@ func (p *push) unfold(tree tenants.Name, below []unfolded, depth int) (found unf
 	if err != nil {
 		return found, err
 	}
-	for entry, rest, ok := objects.NextEntry(contents); ok && found.files <= mostFiles; entry, rest, ok = objects.NextEntry(rest) {
+	for entry, rest, ok := plumbing.NextEntry(string(contents)); ok && found.files <= objects.MostFiles; entry, rest, ok = plumbing.NextEntry(rest) {
 		inside := unfolded{1, pathCost}
 		if entry.IsTree() {
 			if inside, err = p.unfold(entry.Name, below, depth+1); err != nil {

@@ -80,6 +80,27 @@ func Own(file *os.File, folder string) error {
 	return file.Chown(user, group)
 }
 
+// Create makes a file that is not there, which belongs to the owner of a folder, and syncs it.
+func Create(path, text, folder string, mode os.FileMode) error {
+	file, err := os.OpenFile(path, os.O_WRONLY|os.O_CREATE|os.O_EXCL, 0o600)
+	if err != nil {
+		return err
+	}
+	if err = Own(file, folder); err == nil {
+		err = file.Chmod(mode)
+	}
+	if err == nil {
+		_, err = file.WriteString(text)
+	}
+	if err == nil {
+		err = file.Sync()
+	}
+	if closing := file.Close(); err == nil {
+		err = closing
+	}
+	return err
+}
+
 // SyncFolder syncs a folder, so that the names of its files last.
 func SyncFolder(path string) error {
 	folder, err := os.Open(path)

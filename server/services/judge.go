@@ -12,7 +12,7 @@ import (
 
 // judge gives what lets the hooks of the tenant judge a push; nil where it has none.
 func (u Use) judge() func(context.Context, receivepack.Pushed) ([]string, error) {
-	if u.Site.Hooks == nil || !u.Site.Hooks.Judges(u.Tenant.Name()) {
+	if u.Gateway.Hooks == nil || !u.Gateway.Hooks.Judges(u.Tenant.Name()) {
 		return nil
 	}
 	return u.askHooks
@@ -20,15 +20,15 @@ func (u Use) judge() func(context.Context, receivepack.Pushed) ([]string, error)
 
 // askHooks lets hooks read a push by git, and gives what they refuse.
 func (u Use) askHooks(ctx context.Context, p receivepack.Pushed) ([]string, error) {
-	held, err := u.Site.Views.Hold(ctx, u.Tenant, p.Refs, p.Head, p.Objects)
-	if err == quarantine.ErrNoGit || errors.As(err, new(limits.Passed)) {
+	held, err := u.Gateway.Views.Hold(ctx, u.Tenant, p.Refs, p.Head, p.Objects)
+	if errors.Is(err, quarantine.ErrNoGit) || errors.As(err, new(limits.Passed)) {
 		err = told(err)
 	}
 	if err != nil {
 		return nil, err
 	}
 	defer held.Close()
-	return u.Site.Hooks.Judge(ctx, hooks.Judged{Push: u.pushOf(p.Changes, p.Options), Folder: held.Folder, Objects: held.Objects,
+	return u.Gateway.Hooks.Judge(ctx, hooks.Judged{Push: u.pushOf(p.Changes, p.Options), Folder: held.Folder, Objects: held.Objects,
 		Shared: held.Shared, Say: p.Say}), nil
 }
 

@@ -1,4 +1,4 @@
-// Package services has what http and ssh do alike: the two services of git, for a user and a tenant of a site.
+// Package services has what http and ssh do alike: the two services of git, for a user and a tenant.
 package services
 
 import (
@@ -9,13 +9,14 @@ import (
 
 	"gitpoold/access"
 	"gitpoold/child"
-	"gitpoold/daily"
+	"gitpoold/dailyquota"
+	"gitpoold/gateway"
 	"gitpoold/limits"
 	"gitpoold/pack"
 	"gitpoold/pktline"
+	"gitpoold/plumbing"
 	"gitpoold/protect"
 	"gitpoold/receivepack"
-	"gitpoold/site"
 	"gitpoold/tenants"
 	"gitpoold/uploadpack"
 )
@@ -52,12 +53,12 @@ func Version(text string) int {
 
 // Use is one use of a service.
 type Use struct {
-	Site          *site.Site
+	Gateway       *gateway.Gateway
 	Service       string
 	Version       int // of the protocol
 	User, Address string
 	Tenant        tenants.Tenant
-	Meter         *daily.Meter
+	Meter         *dailyquota.Meter
 	In            io.Reader
 	Out           *pktline.Writer
 }
@@ -66,7 +67,7 @@ type Use struct {
 func (u Use) Advertise(ctx context.Context) error {
 	memory := u.memory()
 	defer memory.Free()
-	ctx = tenants.Counted(child.Charging(ctx, u.Meter.AddChild), memory)
+	ctx = plumbing.Counted(child.Charging(ctx, u.Meter.AddChild), memory)
 	if u.Service == ReceivePack {
 		return receivepack.Advertise(ctx, u.Tenant, u.Out, u.Version)
 	}
@@ -76,24 +77,24 @@ func (u Use) Advertise(ctx context.Context) error {
 // Serve answers what follows: one request, or a whole session. It writes each ref that a push changed to the log, and lets hooks be told.
 func (u Use) Serve(ctx context.Context, isStateless bool) error {
 	ctx = child.Charging(ctx, u.Meter.AddChild)
-	held := lines{u.Site.Limits.Lines(u.User, u.Address)}
+	held := lines{u.Gateway.Limits.Lines(u.User, u.Address)}
 	defer held.Free()
 	if u.Service == UploadPack {
 		in := bufio.NewReaderSize(u.In, 1<<16)
-		server := uploadpack.Server{MaySend: u.mayGoOn, Lines: held, Memory: u.memory, Packs: u.Site.Packs}
+		server := uploadpack.Server{MaySend: u.mayGoOn, Lines: held, Memory: u.memory, Packs: u.Gateway.Packs}
 		return server.Serve(ctx, u.Tenant, in, u.Out, u.Version, isStateless)
 	}
 	in := bufio.NewReaderSize(&refusing{from: u.In, mayGoOn: u.mayGoOn}, 1<<16)
-	spool := u.Site.Limits.Spool(u.User, u.Address)
+	spool := u.Gateway.Limits.Spool(u.User, u.Address)
 	defer spool.Free()
 	most := pack.Usual
 	most.MayGrow = u.mayGrow(spool)
-	most.PackBytes = u.Site.Limits.Get().RequestBytes
-	server := receivepack.Server{Folder: u.Site.Work, Limits: most, Rules: u.Site.Limits.Get().Fsck, Lines: held, EndsItself: isStateless, Lasts: u.tell,
-		Judge: u.judge(), Protects: func(c protect.Change) (string, error) { return u.Site.Protects(u.User, u.Tenant.Name(), c) }}
+	most.PackBytes = u.Gateway.Limits.Get().RequestBytes
+	server := receivepack.Server{Folder: u.Gateway.Work, Limits: most, Rules: u.Gateway.Limits.Get().Fsck, Lines: held, EndsItself: isStateless,
+		Lasts: u.tell, Judge: u.judge(), Protects: func(c protect.Change) (string, error) { return u.Gateway.Protects(u.User, u.Tenant.Name(), c) }}
 	result, err := server.Serve(ctx, u.Tenant, in, u.Out)
 	if result.Failed != nil {
-		u.Site.Log.Printf("a push by %q to %s failed: %v", u.User, u.Tenant.Name(), result.Failed)
+		u.Gateway.Log.Printf("a push by %q to %s failed: %v", u.User, u.Tenant.Name(), result.Failed)
 	}
 	return err
 }
@@ -111,7 +112,7 @@ func (f fetch) Hold(bytes int64) error { return told(f.Fetch.Hold(bytes)) }
 func (f fetch) Share(list any, bytes int64) error { return told(f.Fetch.Share(list, bytes)) }
 
 // memory counts what a fetch holds that begins.
-func (u Use) memory() uploadpack.Memory { return fetch{u.Site.Limits.Fetch(u.User, u.Address)} }
+func (u Use) memory() uploadpack.Memory { return fetch{u.Gateway.Limits.Fetch(u.User, u.Address)} }
 
 // told makes a refusal of an error, with its sentence.
 func told(err error) error {
@@ -128,7 +129,7 @@ func (u Use) mayGoOn() error { return told(u.Meter.Err()) }
 // journal keeps its room on the disk.
 func (u Use) mayGrow(spool *limits.Held) func(bytes int64) error {
 	return func(bytes int64) error {
-		err := u.Site.Limits.MayGrow(u.Site.Work)
+		err := u.Gateway.Limits.MayGrow(u.Gateway.Work)
 		if err == nil {
 			err = spool.Hold(bytes)
 		}
@@ -154,7 +155,7 @@ func (r *refusing) Read(into []byte) (int, error) {
 
 // tell tells the log and the hooks what a push changed.
 func (u Use) tell(result receivepack.Result) {
-	u.Site.Changed(u.Address, u.pushOf(result.Changes, result.Options))
+	u.Gateway.Changed(u.Address, u.pushOf(result.Changes, result.Options))
 }
 
 // Counting counts the bytes that pass.
@@ -162,7 +163,7 @@ type Counting struct {
 	From  io.Reader
 	To    io.Writer
 	Count *int64
-	Meter *daily.Meter
+	Meter *dailyquota.Meter
 }
 
 // Read reads and counts.

@@ -50,9 +50,7 @@ func (s *Set) Behind() (records uint64, seconds float64) {
 	for _, it := range s.stores {
 		count, behind := it.Behind()
 		records += count
-		if behind > seconds {
-			seconds = behind
-		}
+		seconds = max(seconds, behind)
 	}
 	return records, seconds
 }

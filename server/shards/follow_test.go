@@ -12,8 +12,8 @@ import (
 	"testing"
 	"time"
 
-	"gitpoold/answers"
 	"gitpoold/await"
+	"gitpoold/idempotency"
 	"gitpoold/journal"
 	"gitpoold/redistest"
 	"gitpoold/store"
@@ -364,7 +364,7 @@ func TestAReplicaKnowsTokens(t *testing.T) {
 	must(t, err)
 	_, err = st.Feed(background, []byte("commit refs/heads/main\ncommitter a <a@b> 1 +0000\ndata 1\nx\n"))
 	must(t, err)
-	st.Keep(answers.New("word", []byte("told")))
+	st.Keep(idempotency.New("word", []byte("told")))
 	_, err = st.Commit(background, nil)
 	must(t, err)
 	for round := 0; round < 3; round++ {

@@ -292,9 +292,7 @@ func (t *table) putAll(steps []frames.Step) error {
 	var last uint64
 	for at := 0; at < len(steps); at += atOnce {
 		end := at + atOnce
-		if end > len(steps) {
-			end = len(steps)
-		}
+		end = min(end, len(steps))
 		number, err := t.append(steps[at:end]...)
 		if err != nil {
 			return err

@@ -16,9 +16,9 @@ import (
 	"sync"
 	"sync/atomic"
 
-	"gitpoold/answers"
 	"gitpoold/child"
 	"gitpoold/frames"
+	"gitpoold/idempotency"
 	"gitpoold/journal"
 	"gitpoold/store"
 )
@@ -423,7 +423,7 @@ func (s *Set) Recount(ctx context.Context, tenant string) error {
 }
 
 // Kept gives what a tenant's stream with a token was answered, if it ended well and that is kept.
-func (s *Set) Kept(tenant, token string) (answers.Answer, bool) {
+func (s *Set) Kept(tenant, token string) (idempotency.Answer, bool) {
 	return s.storeOf(tenant).Kept(tenant, token)
 }
 

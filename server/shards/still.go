@@ -17,14 +17,20 @@ func (s *Set) Still(ctx context.Context, do func() error) error {
 		return ErrInRedis
 	}
 	return s.operate(ctx, func() error {
-		for _, hold := range []func(*store.Store, context.Context) (func(), error){(*store.Store).Unsaved, (*store.Store).Shut} {
-			for _, it := range s.stores {
-				end, err := hold(it, ctx)
-				if err != nil {
-					return err
-				}
-				defer end()
+		unsaved := make([]store.Unsaved, len(s.stores))
+		for at, it := range s.stores {
+			var err error
+			if unsaved[at], err = it.Unsaved(ctx); err != nil {
+				return err
 			}
+			defer unsaved[at].End()
+		}
+		for _, it := range unsaved {
+			open, err := it.Shut(ctx)
+			if err != nil {
+				return err
+			}
+			defer open()
 		}
 		if s.table != nil {
 			s.table.writers.Lock()

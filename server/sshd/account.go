@@ -43,7 +43,7 @@ func (s *session) runAccount(ctx context.Context, words []string) uint32 {
 	ctx, stop := context.WithTimeout(ctx, s.Limits.Get().Request)
 	defer stop()
 	record := &logs.Request{Protocol: "ssh", Address: s.address, User: s.user, What: shownAccount(words)}
-	user := account.User{Site: s.Site, Login: s.user, Address: s.address}
+	user := account.User{Gateway: s.Gateway, Login: s.user, Address: s.address}
 	record.Err = user.Carry(ctx, words, s.channel, counted{s.channel, &record.Out})
 	switch {
 	case errors.Is(record.Err, account.ErrWords):

@@ -14,9 +14,7 @@ import (
 // TestLFSOverSSHIsToldThatItIsNotServed runs what git-lfs runs: it shows what comes on the terminal.
 func TestLFSOverSSHIsToldThatItIsNotServed(t *testing.T) {
 	host := hosted(t, "")
-	client, err := ssh.Dial("tcp", host.address, host.config)
-	check(t, err)
-	defer client.Close()
+	client := host.client(t)
 	for _, command := range []string{"git-lfs-authenticate acme/site.git upload", "git-lfs-transfer '/acme/site.git' download", "git-lfs-transfer"} {
 		session, err := client.NewSession()
 		check(t, err)

@@ -12,7 +12,7 @@ import (
 	"golang.org/x/crypto/ssh"
 
 	"gitpoold/access"
-	"gitpoold/daily"
+	"gitpoold/dailyquota"
 	"gitpoold/logs"
 	"gitpoold/pktline"
 	"gitpoold/services"
@@ -216,7 +216,7 @@ func (s *session) run(ctx context.Context, payload []byte) uint32 {
 }
 
 // enter lets the user in to a tenant, and gives what counts the session and the call that counts it no more.
-func (s *session) enter(tenant string, right access.Right) (t tenants.Tenant, meter *daily.Meter, leave func(), err error) {
+func (s *session) enter(tenant string, right access.Right) (t tenants.Tenant, meter *dailyquota.Meter, leave func(), err error) {
 	leave, err = s.Limits.Enter(s.user, s.address)
 	if err != nil {
 		return t, nil, nil, err
@@ -274,8 +274,8 @@ func (s *session) cut(finished <-chan struct{}) {
 	}
 }
 
-func (s *session) use(service string, t tenants.Tenant, meter *daily.Meter, record *logs.Request) services.Use {
-	return services.Use{Site: s.Site, Service: service, Version: services.Version(s.protocol), User: s.user, Address: s.address, Tenant: t,
+func (s *session) use(service string, t tenants.Tenant, meter *dailyquota.Meter, record *logs.Request) services.Use {
+	return services.Use{Gateway: s.Gateway, Service: service, Version: services.Version(s.protocol), User: s.user, Address: s.address, Tenant: t,
 		Meter: meter, In: services.Counting{From: s.channel, Count: &record.In, Meter: meter},
 		Out: pktline.NewWriter(services.Counting{To: s.channel, Count: &record.Out, Meter: meter})}
 }

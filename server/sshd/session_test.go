@@ -9,8 +9,8 @@ import (
 	"golang.org/x/crypto/ssh"
 
 	"gitpoold/await"
+	"gitpoold/gateway"
 	"gitpoold/limits"
-	"gitpoold/site"
 )
 
 // full is a terminal whose client takes nothing until the connection is closed.
@@ -49,7 +49,7 @@ func TestASentenceThatIsNotTaken(t *testing.T) {
 	bounds, err := limits.Load(folder, t.Logf)
 	must(t, err)
 	terminal := full{make(chan struct{})}
-	s := &session{server: &server{Site: &site.Site{Limits: bounds}}, conn: &ssh.ServerConn{Conn: fullConn{full: terminal}},
+	s := &session{server: &server{Gateway: &gateway.Gateway{Limits: bounds}}, conn: &ssh.ServerConn{Conn: fullConn{full: terminal}},
 		channel: fullChannel{full: terminal}}
 	said := make(chan struct{})
 	go func() {

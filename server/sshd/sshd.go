@@ -13,29 +13,26 @@ import (
 
 	"golang.org/x/crypto/ssh"
 
-	"gitpoold/site"
+	"gitpoold/gateway"
 )
 
 // Most sessions that one connection may have at once: git opens one, and OpenSSH shares a connection among ten.
 const mostSessions = 10
 
-// server answers the connections for one site.
+// server answers the connections.
 type server struct {
-	*site.Site
+	*gateway.Gateway
 	running  sync.WaitGroup
 	stopping <-chan struct{}
 }
 
 // Serve answers connections until ctx is done. Then it takes no more, lets those sessions end that have begun, for a while, and
 // returns.
-func Serve(ctx context.Context, listener net.Listener, s *site.Site, hostKeys []ssh.Signer) error {
-	it := &server{Site: s, stopping: ctx.Done()}
+func Serve(ctx context.Context, listener net.Listener, s *gateway.Gateway, hostKeys []ssh.Signer) error {
+	it := &server{Gateway: s, stopping: ctx.Done()}
 	sessions, stop := context.WithCancel(context.Background())
 	defer stop()
-	go func() {
-		<-ctx.Done()
-		listener.Close()
-	}()
+	context.AfterFunc(ctx, func() { listener.Close() })
 	for {
 		c, err := listener.Accept()
 		if ctx.Err() != nil {

@@ -16,11 +16,11 @@ import (
 	"golang.org/x/crypto/ssh"
 
 	"gitpoold/access"
+	"gitpoold/gateway"
 	"gitpoold/limits"
 	"gitpoold/logs"
 	"gitpoold/metrics"
 	"gitpoold/shards"
-	"gitpoold/site"
 	"gitpoold/store"
 	"gitpoold/tenants"
 )
@@ -83,7 +83,7 @@ func (r *room) start(program string) {
 	listener, err := net.Listen("tcp", "127.0.0.1:0")
 	must(r.t, err)
 	r.address = listener.Addr().String()
-	s := &site.Site{Pool: tenants.New(r.pool, bounds.Quota), Access: who, Limits: bounds, Log: log}
+	s := &gateway.Gateway{Pool: tenants.New(r.pool, bounds.Quota), Access: who, Limits: bounds, Log: log}
 	ctx, stop := context.WithCancel(context.Background())
 	ended := make(chan error)
 	go func() { ended <- Serve(ctx, bounds.ListenIdle(listener), s, []ssh.Signer{newKey(r.t)}) }()

@@ -69,9 +69,7 @@ func TestAnOpenConnectionLosesItsUser(t *testing.T) {
 			if it.byPassword {
 				host.config.Auth = []ssh.AuthMethod{ssh.Password("correct horse")}
 			}
-			client, err := ssh.Dial("tcp", host.address, host.config)
-			check(t, err)
-			defer client.Close()
+			client := host.client(t)
 			if !isLetIn(t, client) {
 				t.Fatal("a user is not let in")
 			}
@@ -90,16 +88,8 @@ func TestAnOpenConnectionLosesItsUser(t *testing.T) {
 // ends with the session that is at work.
 func TestASessionAtWorkOutlastsItsKey(t *testing.T) {
 	host := hosted(t, "drain 1s\n")
-	client, err := ssh.Dial("tcp", host.address, host.config)
-	check(t, err)
-	defer client.Close()
-	session, err := client.NewSession()
-	check(t, err)
-	said, err := session.StdoutPipe()
-	check(t, err)
-	in, err := session.StdinPipe()
-	check(t, err)
-	check(t, session.Start("git-upload-pack 'a'"))
+	client := host.client(t)
+	_, in, said := begun(t, client, "git-upload-pack 'a'")
 	check(t, os.WriteFile(filepath.Join(host.folder, "keys"), nil, 0o600))
 	if isLetIn(t, client) {
 		t.Fatal("a key that is gone holds")

@@ -9,9 +9,9 @@ import (
 	"time"
 
 	"gitpoold/access"
-	"gitpoold/answers"
 	"gitpoold/child"
-	"gitpoold/daily"
+	"gitpoold/dailyquota"
+	"gitpoold/idempotency"
 	"gitpoold/limits"
 	"gitpoold/logs"
 	"gitpoold/services"
@@ -64,7 +64,7 @@ func (v *verb) takeWords(words []string) bool {
 		}
 		token := strings.TrimPrefix(word, "--token=")
 		switch {
-		case token != word && v.name == importVerb && v.token == "" && answers.ValidToken(token):
+		case token != word && v.name == importVerb && v.token == "" && idempotency.ValidToken(token):
 			v.token = token
 		case token == word && v.tenant == "":
 			v.tenant = word
@@ -138,7 +138,7 @@ func (v verb) carryOut(ctx context.Context, u streams.Use) error {
 func (s *session) streams(t tenants.Tenant, in *received, record *logs.Request) streams.Use {
 	cut := func() { s.conn.Close() }
 	out := inParts{services.Counting{To: s.channel, Count: &record.Out, Meter: in.meter}, s.Limits.Get().Idle, cut}
-	return streams.Use{Site: s.Site, User: s.user, Address: s.address, Tenant: t, Meter: in.meter, In: in, Out: out, Tell: s.tell,
+	return streams.Use{Gateway: s.Gateway, User: s.user, Address: s.address, Tenant: t, Meter: in.meter, In: in, Out: out, Tell: s.tell,
 		IsThere: s.isThere, Cut: cut, Stopping: s.stopping, IsLetIn: s.isLetIn}
 }
 
@@ -156,7 +156,7 @@ func (s *session) isLetIn() error {
 // received counts what comes, which is read in the background, and may be after the session.
 type received struct {
 	from  io.Reader
-	meter *daily.Meter
+	meter *dailyquota.Meter
 	count atomic.Int64
 }
 

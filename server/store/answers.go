@@ -1,19 +1,35 @@
 package store
 
 import (
-	"gitpoold/answers"
+	"sync"
+
 	"gitpoold/frames"
-	"gitpoold/journal"
+	"gitpoold/idempotency"
 )
 
 // How the answers of streams with tokens are kept stands in this file alone.
 
+// keptAnswers are the answers of streams with tokens. `keeping` has the Ends whose answers are not among them yet.
+type keptAnswers struct {
+	answers *idempotency.Kept
+	keeping sync.WaitGroup
+	log     *wal
+}
+
 // Keep lets what the stream is answered be kept, where it ends well: `before` is what it was answered so far, and its token. Only a stream
 // without a last piece may be kept.
-func (st *Stream) Keep(before answers.Answer) {
+func (st *Stream) Keep(before idempotency.Answer) {
 	st.mutex.Lock()
 	defer st.mutex.Unlock()
 	st.kept = &before
+}
+
+// setEnded notes that the End is in the journal. A save waits until its answer is kept.
+func (st *Stream) setEnded() {
+	st.isEnded = true
+	if st.kept != nil {
+		st.store.keeping.Add(1)
+	}
 }
 
 // noted gives the steps of an End as they stand in the journal: with what is kept.
@@ -39,85 +55,59 @@ func (st *Stream) keep(told []frames.Answer, isTold bool) {
 }
 
 // keepAgain keeps what a record of the journal says, which another child has carried out.
-func (s *Store) keepAgain(step frames.Step, told frames.Answer) {
+func (k *keptAnswers) keepAgain(step frames.Step, told frames.Answer) {
 	if told.Status != frames.Ok {
 		return
 	}
 	if step.Kind == frames.Remove {
-		s.answers.Put(step.Tenant, nil)
+		k.answers.Put(step.Tenant, nil)
 	}
-	if it, is := answers.Parse(step.Body); is && step.Kind == frames.End {
-		s.answers.Add(step.Tenant, it.With(told.Reply))
-	}
-}
-
-// tokens are the answers that are to be kept of a journal that is carried out, in its order. They are kept where that goes well to its end.
-type tokens struct {
-	store *Store
-	all   []func()
-}
-
-func (s *Store) newTokens() *tokens { return &tokens{store: s} }
-
-func (t *tokens) answered(step frames.Step, told frames.Answer) {
-	t.all = append(t.all, func() { t.store.keepAgain(step, told) })
-}
-
-// before takes the answers that came with a tenant from another shard, and gives all other records to `take`.
-func (t *tokens) before(take func(journal.Record) error) func(journal.Record) error {
-	return func(record journal.Record) error {
-		if it := record.Step; it.Kind == journal.Brought && len(it.Body) > 0 && it.Body[0] == broughtAnswer {
-			t.all = append(t.all, func() { _ = t.store.takeBrought(it.Tenant, it.Body) })
-			return nil
-		}
-		return take(record)
-	}
-}
-
-func (t *tokens) keep() {
-	for _, it := range t.all {
-		it()
+	if it, is := idempotency.Parse(step.Body); is && step.Kind == frames.End {
+		k.answers.Add(step.Tenant, it.With(told.Reply))
 	}
 }
 
 // dropTokens forgets the answers to Ends that were taken back.
-func (s *Store) dropTokens(found fate) {
+func (k *keptAnswers) dropTokens(found fate) {
 	for _, step := range found.takenEnds {
-		if it, is := answers.Parse(step.Body); is {
-			s.answers.Drop(step.Tenant, it.Token)
+		if it, is := idempotency.Parse(step.Body); is {
+			k.answers.Drop(step.Tenant, it.Token)
 		}
 	}
 }
 
-// saveAnswers writes the answers of all streams whose Ends the child has carried out. The gate `steps` is shut, and the child has answered.
-func (s *Store) saveAnswers() error {
-	s.keeping.Wait()
-	return s.answers.Save()
-}
-
-// rescueAnswers writes the answers, where the pool file is written beside its place.
-func (s *Store) rescueAnswers() {
-	if err := s.answers.Save(); err != nil {
-		s.config.Tell("the answers of streams with tokens are not saved: %v", err)
-	}
+// saveAnswers writes the answers of all streams whose Ends the child has carried out. The child, which nobody else uses, has answered.
+func (k *keptAnswers) saveAnswers() error {
+	k.keeping.Wait()
+	return k.answers.Save()
 }
 
 // Kept gives what a tenant's stream with a token was answered, if it ended well and that is kept.
-func (s *Store) Kept(tenant, token string) (answers.Answer, bool) {
-	return s.answers.Find(tenant, token)
+func (k *keptAnswers) Kept(tenant, token string) (idempotency.Answer, bool) {
+	return k.answers.Find(tenant, token)
 }
 
 // Answers gives all answers that are kept of a tenant.
-func (s *Store) Answers(tenant string) []answers.Answer { return s.answers.Of(tenant) }
+func (k *keptAnswers) Answers(tenant string) []idempotency.Answer { return k.answers.Of(tenant) }
 
 // PutAnswers keeps the answers of a tenant that comes from another store. They last when it returns nil.
-func (s *Store) PutAnswers(tenant string, all []answers.Answer) error {
-	if len(all) == 0 && len(s.answers.Of(tenant)) == 0 {
+func (k *keptAnswers) PutAnswers(tenant string, all []idempotency.Answer) error {
+	if len(all) == 0 && len(k.answers.Of(tenant)) == 0 {
 		return nil
 	}
-	s.answers.Put(tenant, all)
-	if err := s.answers.Save(); err != nil {
+	k.answers.Put(tenant, all)
+	if err := k.answers.Save(); err != nil {
 		return err
 	}
-	return s.bringAnswers(tenant, all)
+	return k.log.bringAnswers(tenant, all)
+}
+
+// takeBroughtAnswer keeps what a stream of such a tenant was answered, if the log brought that.
+func (k *keptAnswers) takeBroughtAnswer(step frames.Step) (isAnswer bool) {
+	if isAnswer = len(step.Body) > 0 && step.Body[0] == broughtAnswer; isAnswer {
+		if it, is := idempotency.Parse(step.Body[1:]); is {
+			k.answers.Add(step.Tenant, it)
+		}
+	}
+	return isAnswer
 }

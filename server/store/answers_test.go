@@ -5,7 +5,7 @@ import (
 	"testing"
 	"time"
 
-	"gitpoold/answers"
+	"gitpoold/idempotency"
 )
 
 // pushKept ends a stream with a token, which prints its token as well.
@@ -24,7 +24,7 @@ func pushKept(t *testing.T, s *Store, tenant, token string) {
 	if err != nil {
 		t.Fatal(err)
 	}
-	st.Keep(answers.New(token, printed))
+	st.Keep(idempotency.New(token, printed))
 	if _, err := st.Commit(background, nil); err != nil {
 		t.Fatal(err)
 	}
@@ -72,13 +72,13 @@ func TestATokenThatWasToldComesBack(t *testing.T) {
 func TestMoreTokensThanAreKept(t *testing.T) {
 	c := config(t, folder(t))
 	s := opened(t, c)
-	count := answers.MostAnswers + 10
+	count := idempotency.MostAnswers + 10
 	for i := 0; i < count; i++ {
 		pushKept(t, s, "a", fmt.Sprint("t", i))
 	}
 	hasTokens(t, s, "a", 10, count)
 	was := s.State().ChildPid
-	s.process.Kill()
+	s.child.process.Kill()
 	for pid := was; pid == was || pid == 0; pid = s.State().ChildPid {
 		time.Sleep(time.Millisecond)
 	}

@@ -8,10 +8,10 @@ import (
 	"os"
 	"path/filepath"
 
-	"gitpoold/answers"
 	"gitpoold/child"
 	"gitpoold/faultpoint"
 	"gitpoold/frames"
+	"gitpoold/idempotency"
 	"gitpoold/journal"
 	"gitpoold/poolfile"
 )
@@ -29,8 +29,8 @@ const (
 )
 
 // bringFollowers puts the file of a tenant that comes into the log, if servers follow that.
-func (s *Store) bringFollowers(file string) error {
-	if !s.isFollowed() {
+func (w *wal) bringFollowers(file string) error {
+	if !w.isFollowed() {
 		return nil
 	}
 	from, err := os.Open(file)
@@ -49,52 +49,40 @@ func (s *Store) bringFollowers(file string) error {
 			return err
 		}
 		body[0], first = first, broughtMore
-		if _, err := s.journal.Append(frames.Step{Kind: journal.Brought, Body: body[:1+size]}); err != nil {
+		if _, err := w.Append(frames.Step{Kind: journal.Brought, Body: body[:1+size]}); err != nil {
 			return err
 		}
 	}
 }
 
 // bringAnswers does the same with what the streams of such a tenant were answered.
-func (s *Store) bringAnswers(tenant string, all []answers.Answer) error {
-	if !s.isFollowed() {
+func (w *wal) bringAnswers(tenant string, all []idempotency.Answer) error {
+	if !w.isFollowed() {
 		return nil
 	}
 	for _, it := range all {
 		body := append([]byte{broughtAnswer}, it.Body()...)
-		number, err := s.journal.Append(frames.Step{Kind: journal.Brought, Tenant: tenant, Body: body})
-		if err == nil {
-			err = s.journal.Sync(number)
-		}
-		if err != nil {
+		if _, err := w.add(frames.Step{Kind: journal.Brought, Tenant: tenant, Body: body}); err != nil {
 			return err
 		}
 	}
 	return nil
 }
 
-// isFollowed tells whether other servers follow the log.
-func (s *Store) isFollowed() bool {
-	log, isRedis := s.journal.(interface{ IsFollowed() bool })
-	return isRedis && log.IsFollowed()
-}
+// brought is where such a file is, beside the pool file.
+func (t recordTurn) brought() string { return filepath.Join(t.store.config.work(), broughtName) }
 
-// takeBrought puts a part of such a file beside the pool file.
-func (s *Store) takeBrought(tenant string, body []byte) error {
-	if len(body) == 0 {
-		return nil
-	}
-	if body[0] == broughtAnswer {
-		if it, is := answers.Parse(body[1:]); is {
-			s.answers.Add(tenant, it)
-		}
+// takeBrought keeps what the log brought: an answer, or a part of such a file, which it puts beside the pool file.
+func (t recordTurn) takeBrought(step frames.Step) error {
+	body := step.Body
+	if len(body) == 0 || t.store.takeBroughtAnswer(step) {
 		return nil
 	}
 	how := os.O_WRONLY | os.O_CREATE | os.O_APPEND
 	if body[0] == broughtFirst {
 		how |= os.O_TRUNC
 	}
-	file, err := os.OpenFile(filepath.Join(s.work(), broughtName), how, 0o600)
+	file, err := os.OpenFile(t.brought(), how, 0o600)
 	if err != nil {
 		return err
 	}
@@ -104,45 +92,41 @@ func (s *Store) takeBrought(tenant string, body []byte) error {
 }
 
 // mergeBrought merges a file that the log brought, if it did, into the pool file that the child has just written, and gives the digest of that.
-func (s *Store) mergeBrought() (digest journal.Digest, err error) {
-	file, next := filepath.Join(s.work(), broughtName), filepath.Join(s.work(), "pool")
+func (t recordTurn) mergeBrought() (digest journal.Digest, err error) {
+	file, next, s := t.brought(), t.store.pool.next(), t.store
 	if _, err := os.Stat(file); errors.Is(err, os.ErrNotExist) {
 		return digest, nil
 	}
 	ctx, stop := context.WithTimeout(context.Background(), saveWithin)
 	defer stop()
-	if err := s.runProgram(ctx, "merge", file, "--pool", next); err != nil {
+	if err := s.config.runProgram(ctx, "merge", file, "--pool", next); err != nil {
 		return digest, err
 	}
-	found, err := poolfile.Digest(next)
-	return journal.Digest(found), err
+	return poolfile.Digest(next)
 }
 
-// exchangeFollowed puts a child on the merged pool file in the place of the one before. There are no streams.
-func (s *Store) exchangeFollowed(r *replay) error {
-	next, err := s.startOn(s.pool)
+// exchange puts a child on the merged pool file in the place of the one before. There are no streams.
+func (t recordTurn) exchange() error {
+	s := t.store
+	next, err := s.config.startOn(s.pool.path, started.hasLoaded)
 	if err != nil {
 		return err
 	}
+	var m maintenance
 	select {
-	case s.maintain <- struct{}{}:
-		defer s.endMaintenance()
+	case kept := <-s.maintain:
+		m = maintenance{s, kept}
 	default:
 		next.end()
 		return child.ErrGone
 	}
+	defer m.done()
 	faultpoint.Here("before a followed child is exchanged")
-	_ = s.steps.shut(context.Background())
-	old := started{s.process, s.room}
-	s.process, s.room = next.process, next.room
-	s.mutex.Lock()
-	s.newest = next.process
-	s.mutex.Unlock()
-	r.process, s.follower.room = next.process, next.room
-	s.steps.open()
-	go s.watch(next.process)
+	x := m.alone()
+	old := x.put(next)
+	t.replay.started = next
+	x.open()
 	faultpoint.Here("after a followed child is exchanged")
-	_, _ = sendAndWait(context.Background(), old.process, frames.Step{Kind: frames.Sizes})
-	old.end()
+	old.retire()
 	return nil
 }

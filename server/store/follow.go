@@ -4,15 +4,12 @@ import (
 	"context"
 	"errors"
 	"os"
-	"path/filepath"
 	"sync"
 	"time"
 
-	"gitpoold/child"
 	"gitpoold/faultpoint"
 	"gitpoold/frames"
 	"gitpoold/journal"
-	"gitpoold/poolfile"
 )
 
 // How a store follows a log that another server writes stands in this file.
@@ -30,93 +27,91 @@ func (f *Follows) Error() string {
 	return "this server follows another one, and takes no changes; make them at " + f.Leader
 }
 
-// follower is what a store has while it follows a log.
+// follower brings the child to what a log has that another server writes.
 type follower struct {
+	store *Store
 	log   *journal.Following
 	ended chan struct{}
 
-	// turn is held by whoever takes records, or starts another child that carries them out. It guards the pool file and what follows: the
-	// journal on its way to the child, and the room of that.
+	// turn guards the pool file, and the journal on its way to the child.
 	turn   sync.Mutex
 	replay *replay
-	room   string
 }
 
-// holdTurn lets a store that follows take no record until the call that it gives: at a merge that needs another child, for which it would not wait. It
-// does not wait for longer than the context lasts.
-func (s *Store) holdTurn(ctx context.Context) (end func(), err error) {
-	if s.follower == nil {
-		return func() {}, nil
+// recordTurn is a follower whose caller alone takes records, or starts another child that carries them out. A store that follows nothing has none.
+type recordTurn struct{ *follower }
+
+func (f *follower) takeTurn() recordTurn {
+	if f != nil {
+		f.turn.Lock()
 	}
-	for !s.follower.turn.TryLock() {
+	return recordTurn{f}
+}
+
+// holdTurn waits no longer than the context lasts: who takes records may need another child for a merge, for which it would not wait.
+func (f *follower) holdTurn(ctx context.Context) (recordTurn, error) {
+	for f != nil && !f.turn.TryLock() {
 		if ctx.Err() != nil {
-			return nil, ctx.Err()
+			return recordTurn{}, ctx.Err()
 		}
 		time.Sleep(time.Millisecond)
 	}
-	return s.follower.turn.Unlock, nil
+	return recordTurn{f}, nil
 }
 
-// withStreams gives the tenants of which the child may have a stream. The turn is held.
-func (f *follower) withStreams() (tenants []string) {
-	if f.replay == nil {
+func (t recordTurn) end() {
+	if t.follower != nil {
+		t.turn.Unlock()
+	}
+}
+
+// withStreams gives the tenants of which the child may have a stream.
+func (t recordTurn) withStreams() (tenants []string) {
+	if !t.isFollowing() || t.replay == nil {
 		return nil
 	}
-	for tenant := range f.replay.streams {
+	for tenant := range t.replay.streams {
 		tenants = append(tenants, tenant)
 	}
 	return tenants
 }
 
-// openFollowed opens the journal of a store that follows.
-func (s *Store) openFollowed(options journal.Options, pool journal.Digest) error {
-	opened, err := journal.Follow(options, pool, s.config.Follows)
-	if err == nil {
-		s.journal, s.follower = opened, &follower{log: opened, ended: make(chan struct{})}
-	}
-	return err
-}
-
 // isFollowing tells whether another server writes the log.
-func (s *Store) isFollowing() bool { return s.follower != nil && !s.follower.log.IsLeading() }
+func (f *follower) isFollowing() bool { return f != nil && !f.log.IsLeading() }
 
-// carryOutFollowed brings a child to where the log goes on from the pool file; followOn carries out what comes from there on. It tells whether
-// this store follows. The turn is held.
-func (s *Store) carryOutFollowed(process *child.Process, room string, pool journal.Digest) (isFollowing bool, err error) {
-	if !s.isFollowing() {
-		return false, nil
-	}
-	fate, err := s.fateOf(pool)
+// carryOut brings a child to where the log goes on from the pool file; followOn carries out what comes from there on.
+func (t recordTurn) carryOut(by started, pool journal.Digest) error {
+	s := t.store
+	fate, err := s.journal.fateOf(pool)
 	if err != nil {
-		return true, err
+		return err
 	}
 	s.dropTokens(fate)
-	r := newOngoing(process, fate)
+	r := newOngoing(by, fate)
 	r.answered = func(record journal.Record, answer frames.Answer) { s.keepAgain(record.Step, answer) }
-	r.brought = s.addFed
-	if err := s.readSizes(process); err != nil {
-		return true, err
+	r.brought = func(tenant string, fed int64) { s.usage.add(tenant, fed, unbounded) }
+	if err := s.usage.readFrom(by.process); err != nil {
+		return err
 	}
-	if err := s.follower.log.Rewind(pool); err != nil {
-		return true, err
+	if err := t.log.Rewind(pool); err != nil {
+		return err
 	}
 	// These are the streams that were open when the file was made.
 	if err := s.journal.Records(pool, r.take); err != nil {
-		return true, err
+		return err
 	}
-	s.follower.replay, s.follower.room = r, room
-	return true, r.settle(0)
+	t.follower.replay = r
+	return r.settle(0)
 }
 
 // followOn takes records as they come, until the store closes or leads.
-func (s *Store) followOn() {
-	f := s.follower
+func (f *follower) followOn() {
 	defer close(f.ended)
-	wait := shortestWait
-	for s.isFollowing() && !s.isClosing() {
+	s, wait := f.store, shortestWait
+	for f.isFollowing() && !s.child.isClosing() {
 		entries, err := f.log.Read()
 		if err == nil {
-			err = s.carryOn(entries)
+			err = f.carryOn(entries)
 		}
 		switch {
 		case err == nil && wait > shortestWait:
@@ -124,10 +119,10 @@ func (s *Store) followOn() {
 			wait = shortestWait
 		case err == nil:
 		case isOfLog(err) && !errors.Is(err, journal.ErrUnread):
-			s.lost(err)
+			s.recovery.lost(err)
 			return
 		default:
-			wait = s.pause(err, wait)
+			wait = f.pause(err, wait)
 		}
 	}
 }
@@ -138,9 +133,9 @@ const (
 )
 
 // pause waits after an error, and gives how long to wait after the next one. The first error is told.
-func (s *Store) pause(err error, wait time.Duration) time.Duration {
+func (f *follower) pause(err error, wait time.Duration) time.Duration {
 	if wait == shortestWait {
-		s.config.Tell("the log is not followed: %v", err)
+		f.store.config.Tell("the log is not followed: %v", err)
 	}
 	time.Sleep(wait)
 	if wait *= 2; wait > longestWait {
@@ -149,213 +144,168 @@ func (s *Store) pause(err error, wait time.Duration) time.Duration {
 	return wait
 }
 
-func (s *Store) isClosing() bool {
-	select {
-	case <-s.closing:
-		return true
-	default:
-		return false
-	}
-}
-
 // carryOn lets the child carry out entries. Where it does not, another one is started, and what the pool file has not is taken again.
-func (s *Store) carryOn(entries journal.Entries) error {
-	f := s.follower
-	f.turn.Lock()
-	defer f.turn.Unlock()
-	if !s.isFollowing() {
+func (f *follower) carryOn(entries journal.Entries) error {
+	turn := f.takeTurn()
+	defer turn.end()
+	if !f.isFollowing() {
 		return nil
 	}
-	var last uint64
-	for f.log.HasNext(&entries) {
-		it, err := f.log.Take(&entries)
-		if err != nil {
-			return err
-		}
-		if err = s.follow(it); err == nil && it.Step.Kind == frames.End {
-			err = f.arrive(it.Number)
-		}
-		if err != nil {
-			return s.unlessOfLog(err)
-		}
-		last = it.Number
-	}
-	return s.unlessOfLog(f.arrive(last))
-}
-
-// arrive waits until the child has carried out all records up to a number.
-func (f *follower) arrive(number uint64) error {
-	err := f.replay.settle(0)
-	if err == nil {
-		f.log.Arrive(number)
+	err := turn.followAll(&entries)
+	if err != nil && !isOfLog(err) {
+		turn.replay.process.Kill()
 	}
 	return err
 }
 
-// unlessOfLog ends the child, unless an error is that of the log.
-func (s *Store) unlessOfLog(err error) error {
-	if err != nil && !isOfLog(err) {
-		s.follower.replay.process.Kill()
+func (t recordTurn) followAll(entries *journal.Entries) error {
+	var last uint64
+	for t.log.HasNext(entries) {
+		it, err := t.log.Take(entries)
+		if err == nil {
+			err = t.follow(it)
+		}
+		if err == nil && it.Step.Kind == frames.End {
+			err = t.arrive(it.Number)
+		}
+		if err != nil {
+			return err
+		}
+		last = it.Number
+	}
+	return t.arrive(last)
+}
+
+// arrive waits until the child has carried out all records up to a number.
+func (t recordTurn) arrive(number uint64) error {
+	err := t.replay.settle(0)
+	if err == nil {
+		t.log.Arrive(number)
 	}
 	return err
 }
 
 // follow carries out one record.
-func (s *Store) follow(it journal.Followed) error {
+func (t recordTurn) follow(it journal.Followed) error {
 	faultpoint.Here("before a record is followed")
-	r := s.follower.replay
 	if it.IsSave {
-		return s.followSave(r, it)
+		return t.followSave(it)
 	}
 	if it.Step.Kind == journal.Brought {
-		return s.takeBrought(it.Step.Tenant, it.Step.Body)
+		return t.takeBrought(it.Step)
 	}
-	if err := r.take(it.Record); err != nil {
-		return err
-	}
+	err := t.replay.take(it.Record)
 	switch it.Step.Kind {
 	case frames.Remove, frames.Compact, frames.Copy:
-		if err := r.settle(0); err != nil {
-			return err
+		if err == nil {
+			err = t.replay.settle(0)
 		}
-		return s.readSizes(r.process)
+		if err == nil {
+			err = t.store.usage.readFrom(t.replay.process)
+		}
 	}
-	return nil
+	return err
 }
 
 // followSave saves where the other server saved, with the tenant that the log brought before, if it did. A save that fails leaves the pool file
 // that there was. One that comes to other bytes than those of the other server is the end.
-func (s *Store) followSave(r *replay, it journal.Followed) error {
-	if err := r.settle(0); err != nil {
+func (t recordTurn) followSave(it journal.Followed) error {
+	if err := t.replay.settle(0); err != nil {
 		return err
 	}
-	began := time.Now()
-	digest, err := s.writePool(r.process, s.follower.room)
+	s, began := t.store, time.Now()
+	digest, err := s.pool.write(t.replay.started)
 	isMerged := err == nil && digest != it.Pool
 	if isMerged {
-		digest, err = s.mergeBrought()
+		digest, err = t.mergeBrought()
 	}
 	if err == nil && digest != it.Pool {
-		return s.follower.log.OtherPool(it.Number)
+		return t.log.OtherPool(it.Number)
 	}
 	if err == nil {
 		err = s.saveAnswers()
 	}
 	if err == nil {
-		err = s.renamePool()
+		err = s.pool.takeNext()
 	}
-	s.noteSave(began, err)
+	s.saver.note(began, err)
 	switch {
 	case err != nil && isMerged:
 		return err
 	case err == nil:
-		s.follower.log.Saved(digest)
-		_ = os.Remove(filepath.Join(s.work(), broughtName))
+		t.log.Saved(digest)
+		_ = os.Remove(t.brought())
 	}
 	if isMerged {
-		if err := s.exchangeFollowed(r); err != nil {
+		if err := t.exchange(); err != nil {
 			return err
 		}
 	}
-	return s.readSizes(r.process)
-}
-
-// errTakenBack says that the log takes back what the child has carried out, so that another one has to begin anew.
-var errTakenBack = errors.New("the log takes back what was carried out")
-
-// endFollowed notes that a stream of a journal that goes on has ended.
-func (r *replay) endFollowed(record journal.Record, fed int64) {
-	if r.ended != nil {
-		r.ended[record.Step.Tenant], r.fed[record.Number] = true, fed
-	}
-}
-
-// sendHeld sends the piece that was held, and holds this one.
-func (r *replay) sendHeld(stream *replayed, record journal.Record) error {
-	held := stream.held
-	stream.held = nil
-	if held != nil {
-		if err := r.send(*held); err != nil {
-			return err
-		}
-	}
-	if record.Step.Kind == frames.Feed {
-		stream.held = &record
-		return nil
-	}
-	return r.send(record)
-}
-
-func (s *Store) addFed(tenant string, fed int64) {
-	s.mutex.Lock()
-	defer s.mutex.Unlock()
-	s.since[tenant] += fed
-	s.bounds[tenant] = unbounded
-	s.total += fed
+	return s.usage.readFrom(t.replay.process)
 }
 
 // Fresh waits until the child has what the log had when this was called, where this store follows.
-func (s *Store) Fresh(ctx context.Context) error {
-	if !s.isFollowing() {
+func (f *follower) Fresh(ctx context.Context) error {
+	if !f.isFollowing() {
 		return nil
 	}
-	_, err := s.follower.log.Fresh(ctx)
+	_, err := f.log.Fresh(ctx)
 	return err
 }
 
-// enterFresh goes through the gate `steps` where the child has what the log had when this was called, unless it gives a second child that answers
-// questions.
-func (s *Store) enterFresh(ctx context.Context) (beside *child.Process, err error) {
+// enterFresh goes in where the child has what the log had when this was called, or a second one has it.
+func (s *Store) enterFresh(ctx context.Context) (inside, error) {
 	for s.isFollowing() {
 		number, err := s.follower.log.Fresh(ctx)
 		if err != nil {
-			return nil, err
+			return inside{}, err
 		}
-		if err := s.enter(ctx); err != nil || s.follower.log.HasCome(number) {
-			return nil, err
+		if in, err := s.child.enter(ctx); err != nil || s.follower.log.HasCome(number) {
+			return in, err
+		} else {
+			// Another child was started meanwhile.
+			in.leave()
 		}
-		// Another child was started meanwhile.
-		s.steps.leave()
 	}
-	return s.enterOrBeside(ctx)
+	return s.child.enterOrBeside(ctx)
 }
 
 // Silence is for how long nothing was seen of the server that writes the log.
-func (s *Store) Silence() time.Duration { return s.follower.log.Silence() }
+func (f *follower) Silence() time.Duration { return f.log.Silence() }
 
 // Hush lets the silence begin anew.
-func (s *Store) Hush() { s.follower.log.Hush() }
+func (f *follower) Hush() { f.log.Hush() }
 
 // Behind tells how many records this store has not carried out, and for how many seconds it may be behind; 0 unless it follows.
-func (s *Store) Behind() (records uint64, seconds float64) {
-	if s.follower == nil {
+func (f *follower) Behind() (records uint64, seconds float64) {
+	if f == nil {
 		return 0, 0
 	}
-	return s.follower.log.Behind()
+	return f.log.Behind()
 }
 
 // TakeOver makes this server the one that writes the log. It is journal.ErrNotAtEnd where the log has records that were not taken yet, or was not
 // silent for so long; on any error this store goes on following. Streams that are open in the log are given up.
-func (s *Store) TakeOver(silence time.Duration) error {
-	f := s.follower
-	f.turn.Lock()
-	defer f.turn.Unlock()
-	if !s.isFollowing() {
+func (f *follower) TakeOver(silence time.Duration) error {
+	turn := f.takeTurn()
+	defer turn.end()
+	if !f.isFollowing() {
 		return nil
 	}
-	digest, err := poolfile.Digest(s.pool)
+	s := f.store
+	digest, err := s.pool.digest()
 	if err == nil {
-		err = f.log.TakeOver(journal.Digest(digest), silence)
+		err = f.log.TakeOver(digest, silence)
 	}
 	if err != nil {
 		return err
 	}
 	faultpoint.Here("after a log is taken over")
-	for tenant := range f.replay.streams {
-		f.replay.drop(tenant)
-		s.noteGivenUp(tenant)
+	for tenant := range turn.replay.streams {
+		turn.replay.drop(tenant)
+		s.journal.noteGivenUp(tenant)
 	}
-	if err := s.readSizes(f.replay.process); err != nil {
+	if err := s.usage.readFrom(turn.replay.process); err != nil {
 		// The child has died, and the next one is asked.
 		s.config.Tell("the child does not tell sizes: %v", err)
 	}

@@ -74,8 +74,9 @@ func TestARescueWaitsForRecords(t *testing.T) {
 	if !waits(done) {
 		t.Fatal("a rescue does not wait")
 	}
-	must(t, follower.beginMaintenance(background))
-	follower.endMaintenance()
+	m, err := follower.beginMaintenance(background)
+	must(t, err)
+	m.done()
 	follower.follower.turn.Unlock()
 	<-done
 	if _, err := os.Stat(filepath.Join(of.Folder, rescuedName)); err != nil {
@@ -118,12 +119,12 @@ func TestAChildThatDiesInASave(t *testing.T) {
 	pushAll(t, leader, "m0")
 	must(t, leader.Save(background))
 	followToSave(t, follower)
-	digest, err := follower.writePool(f.replay.process, f.room)
+	digest, err := follower.pool.write(f.replay.started)
 	must(t, err)
 	f.replay.process.Kill()
 	<-f.replay.process.Gone()
 	time.Sleep(200 * time.Millisecond)
-	must(t, follower.renamePool())
+	must(t, follower.pool.takeNext())
 	f.log.Saved(digest)
 	f.turn.Unlock()
 	hasMessages(t, follower, "a", "refs/heads/main", []string{"m0"})
@@ -147,7 +148,7 @@ func followToSave(t testing.TB, follower *Store) {
 				must(t, f.replay.settle(0))
 				return
 			}
-			must(t, follower.follow(it))
+			must(t, recordTurn{f}.follow(it))
 		}
 	}
 }
@@ -280,7 +281,7 @@ func TestAFollowerThatLags(t *testing.T) {
 	defer follower.Close(background)
 	messages := []string{"m0"}
 	for i := 1; i < 5; i++ {
-		_ = syscall.Kill(follower.process.Pid(), syscall.SIGSTOP)
+		_ = syscall.Kill(follower.child.process.Pid(), syscall.SIGSTOP)
 		pushAll(t, leader, fmt.Sprint("m", i))
 		messages = append(messages, fmt.Sprint("m", i))
 		if i == 1 {
@@ -290,7 +291,7 @@ func TestAFollowerThatLags(t *testing.T) {
 		}
 		go func() {
 			time.Sleep(50 * time.Millisecond)
-			_ = syscall.Kill(follower.process.Pid(), syscall.SIGCONT)
+			_ = syscall.Kill(follower.child.process.Pid(), syscall.SIGCONT)
 		}()
 		hasMessages(t, follower, "a", "refs/heads/main", messages)
 	}
@@ -341,7 +342,7 @@ func TestAFollowerTakesBack(t *testing.T) {
 	defer func() { follower.Close(background) }()
 	pushAll(t, leader, "m0", "m1")
 	hasMessages(t, follower, "a", "refs/heads/main", []string{"m0", "m1"})
-	if err := leader.takeBack("a"); err != nil {
+	if err := leader.journal.takeBack(0, end{tenant: "a"}); err != nil {
 		t.Fatal(err)
 	}
 	hasMessages(t, follower, "a", "refs/heads/main", []string{"m0"})
@@ -351,7 +352,7 @@ func TestAFollowerTakesBack(t *testing.T) {
 	if ask(t, follower, "b", "refs") == "" {
 		t.Fatal("the follower has no copy")
 	}
-	if err := leader.takeRequestBack(leader.journal.Number(), nil); err != nil {
+	if err := leader.journal.takeBack(leader.journal.Number(), end{isRequest: true}); err != nil {
 		t.Fatal(err)
 	}
 	if ask(t, follower, "b", "refs") != "" {
@@ -388,7 +389,7 @@ func TestAFollowerWaitsForTheEnd(t *testing.T) {
 	follower.Close(background)
 	follower = opened(t, of)
 	hasMessages(t, follower, "a", "refs/heads/main", []string{"m0"})
-	leader.noteGivenUp("a")
+	leader.journal.noteGivenUp("a")
 	pushAll(t, leader, "m1")
 	hasMessages(t, follower, "a", "refs/heads/main", []string{"m0", "m1"})
 	saves(t, leader, follower)
@@ -427,12 +428,12 @@ func TestAMergeThatOnlyTheLogHas(t *testing.T) {
 	follower := opened(t, of)
 	defer follower.Close(background)
 	pushAll(t, leader, "m0")
-	log := leader.journal
-	leader.journal = &unsureBegin{Journal: log, left: 1}
+	log := leader.journal.Journal
+	leader.journal.Journal = &unsureBegin{Journal: log, left: 1}
 	if err := leader.Merge(background, "b", moved); !errors.Is(err, journal.ErrUnsure) {
 		t.Fatal(err)
 	}
-	leader.journal = log
+	leader.journal.Journal = log
 	must(t, follower.Fresh(background))
 	hasMessages(t, follower, "b", "refs/heads/main", []string{"of b"})
 	if leader.Has("b") {

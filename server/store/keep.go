@@ -26,27 +26,27 @@ const (
 )
 
 // pauseAfter is how long nothing is saved by itself after a save.
-func (s *Store) pauseAfter(failed error) time.Duration {
+func (v *saver) pauseAfter(failed error) time.Duration {
 	switch {
 	case failed == nil:
 		return 0
-	case s.journal.IsHealedBySave():
+	case v.store.journal.IsHealedBySave():
 		return whileBroken
 	}
 	return afterFailure
 }
 
 // WantSave asks Keep for a save.
-func (s *Store) WantSave() {
+func (v *saver) WantSave() {
 	select {
-	case s.wanted <- struct{}{}:
+	case v.wanted <- struct{}{}:
 	default:
 	}
 }
 
 // Keep saves when it is time, and replaces a child that does not answer, until the context ends.
-func (s *Store) Keep(ctx context.Context, rhythm func() Rhythm) {
-	go s.endStalled(ctx, rhythm)
+func (v *saver) Keep(ctx context.Context, rhythm func() Rhythm) {
+	go v.store.recovery.endStalled(ctx, rhythm)
 	ticker := time.NewTicker(lookEvery)
 	defer ticker.Stop()
 	last := lastSave{at: time.Now()}
@@ -55,12 +55,12 @@ func (s *Store) Keep(ctx context.Context, rhythm func() Rhythm) {
 		select {
 		case <-ctx.Done():
 			return
-		case <-s.wanted:
+		case <-v.wanted:
 			isWanted = true
 		case <-ticker.C:
 		}
-		if isWanted || s.isDue(rhythm(), &last) {
-			last = s.saveNow(ctx)
+		if isWanted || v.isDue(rhythm(), &last) {
+			last = v.saveNow(ctx)
 		}
 	}
 }
@@ -72,48 +72,23 @@ type lastSave struct {
 	left   int64
 }
 
-func (s *Store) saveNow(ctx context.Context) lastSave {
+func (v *saver) saveNow(ctx context.Context) lastSave {
 	it := lastSave{at: time.Now()}
-	if it.failed = s.Save(ctx); it.failed == nil && !s.isFollowing() {
-		it.left = s.journal.Bytes()
+	if it.failed = v.Save(ctx); it.failed == nil && !v.store.isFollowing() {
+		it.left = v.store.journal.Bytes()
 	}
 	return it
 }
 
 // isDue tells whether it is time for another save. What the last one had to leave in the journal asks for none: another one would leave it too.
-func (s *Store) isDue(now Rhythm, last *lastSave) bool {
-	bytes, since := s.journal.Bytes(), time.Since(last.at)
+func (v *saver) isDue(now Rhythm, last *lastSave) bool {
+	bytes, since := v.store.journal.Bytes(), time.Since(last.at)
 	if bytes < last.left {
 		last.left = bytes
 	}
-	if since < s.pauseAfter(last.failed) {
+	if since < v.pauseAfter(last.failed) {
 		return false
 	}
-	return bytes-last.left > now.JournalBytes || s.journal.IsHealedBySave() || s.isCopyLate.Load() ||
-		s.hasStarved.Load() && since > starvedEvery || s.journal.HasSteps() && since > now.SaveEvery
-}
-
-// endStalled ends a child that works without an answer for too long; `watch`, or the save that waits for it, starts another one. Without a second
-// one questions wait.
-func (s *Store) endStalled(ctx context.Context, rhythm func() Rhythm) {
-	ticker := time.NewTicker(lookEvery)
-	defer ticker.Stop()
-	for {
-		select {
-		case <-ctx.Done():
-			return
-		case <-ticker.C:
-		}
-		s.mutex.Lock()
-		process, second := s.newest, s.second
-		s.mutex.Unlock()
-		if silent := process.Stalled(); silent > rhythm().Step {
-			s.config.Tell("the child has not answered for %.0f s and is replaced", silent.Seconds())
-			process.Kill()
-		}
-		if second != nil && second.Stalled() > rhythm().Step {
-			s.config.Tell("the second child has not answered for %.0f s and is ended", second.Stalled().Seconds())
-			second.Kill()
-		}
-	}
+	return bytes-last.left > now.JournalBytes || v.store.journal.IsHealedBySave() || v.store.pool.isCopyLate.Load() ||
+		v.hasStarved.Load() && since > starvedEvery || v.store.journal.HasSteps() && since > now.SaveEvery
 }

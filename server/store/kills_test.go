@@ -16,10 +16,10 @@ import (
 	"testing"
 	"time"
 
-	"gitpoold/answers"
 	"gitpoold/await"
 	"gitpoold/child"
 	"gitpoold/frames"
+	"gitpoold/idempotency"
 )
 
 // TestMain makes this program the run that is killed: it pushes to three tenants, saves in between, and says of each push how it went.
@@ -84,7 +84,7 @@ func pushAndTell(s *Store, tenant, text string, isMeasured bool) {
 		_, err = pending.Wait(background)
 	}
 	if err == nil {
-		st.Keep(answers.New(text, []byte(tenant)))
+		st.Keep(idempotency.New(text, []byte(tenant)))
 		err = commitOne(st, isMeasured, nil)
 	}
 	if err != nil {

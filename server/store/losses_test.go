@@ -5,9 +5,10 @@ import (
 	"os"
 	"path/filepath"
 	"testing"
+	"time"
 
-	"gitpoold/answers"
 	"gitpoold/frames"
+	"gitpoold/idempotency"
 	"gitpoold/journal"
 )
 
@@ -34,10 +35,10 @@ func TestWhatIsTakenBackIsNotTold(t *testing.T) {
 		t.Fatal(answers, err)
 	}
 	s.takeBackUntold()
-	if s.forget(sent.number) {
+	if s.inDoubt.forget(sent.number) {
 		t.Fatal("the push is told to be there, and was taken back")
 	}
-	if answers, err := s.outcome(sent.outcome); err != nil || answers[0].Value != 90 {
+	if answers, err := s.inDoubt.outcome(sent.outcome); err != nil || answers[0].Value != 90 {
 		t.Fatal(answers, err)
 	}
 	crash(s)
@@ -58,14 +59,14 @@ func TestAStreamWhoseRecordsAreLostIsRefused(t *testing.T) {
 	if _, err := st.Feed(background, []byte(header+"commit refs/heads/main\ncommitter a <a@b> 1 +0000\ndata 1\nx\n")); err != nil {
 		t.Fatal(err)
 	}
-	s.journal = lossy{s.journal}
+	s.journal.Journal = lossy{s.journal.Journal}
 	if _, err := st.Feed(background, []byte("\n")); !errors.Is(err, journal.ErrBroken) {
 		t.Fatalf("the stream goes on: %v", err)
 	}
 	if _, err := st.Commit(background, []byte("done\n")); !errors.Is(err, journal.ErrBroken) {
 		t.Fatalf("the stream ends: %v", err)
 	}
-	if numbers := s.openNumbers(); len(numbers) > 0 {
+	if numbers := (exclusive{maintenance{Store: s}}).openNumbers(); len(numbers) > 0 {
 		t.Fatalf("a save would name the lost Opens %v", numbers)
 	}
 	st.GiveUp()
@@ -90,12 +91,12 @@ func TestAnOpenWithoutRoomTakesNothingBack(t *testing.T) {
 	c := config(t, folder(t))
 	s := opened(t, c)
 	pushAll(t, s, "m0")
-	log := s.journal
-	s.journal = full{log}
+	log := s.journal.Journal
+	s.journal.Journal = full{log}
 	if _, err := s.Begin(background, "a", Whole); !errors.Is(err, journal.ErrFull) {
 		t.Fatal(err)
 	}
-	s.journal = log
+	s.journal.Journal = log
 	pushAll(t, s, "m1")
 	crash(s)
 	s = opened(t, c)
@@ -115,7 +116,7 @@ func TestCheckpointsOfALostStreamAreSaved(t *testing.T) {
 		t.Fatal(err)
 	}
 	hasMessages(t, s, "a", "refs/heads/main", []string{"m0"})
-	s.journal = lossy{s.journal}
+	s.journal.Journal = lossy{s.journal.Journal}
 	if err := s.Save(background); err != nil {
 		t.Fatal(err)
 	}
@@ -172,7 +173,7 @@ func untold(t *testing.T, s *Store) (*Stream, sentEnd) {
 	if err != nil {
 		t.Fatal(err)
 	}
-	st.Keep(answers.New("t0", nil))
+	st.Keep(idempotency.New("t0", nil))
 	if err := fed(st, commitOn("refs/heads/main", "m0", "")); err != nil {
 		t.Fatal(err)
 	}
@@ -193,11 +194,11 @@ func TestATokenOfWhatIsTakenBackIsNotKept(t *testing.T) {
 		t.Fatal(told, err)
 	}
 	s.takeBackUntold()
-	st.keep(told, s.forget(sent.number))
+	st.keep(told, s.inDoubt.forget(sent.number))
 	if _, has := s.Kept("b", "t0"); has {
 		t.Fatal("the token is kept")
 	}
-	s.answers.Add("b", answers.New("t0", nil))
+	s.answers.Add("b", idempotency.New("t0", nil))
 	if err := s.answers.Save(); err != nil {
 		t.Fatal(err)
 	}
@@ -234,13 +235,13 @@ func (c *cut) Records(pool journal.Digest, take func(journal.Record) error) erro
 
 // startsAgain starts another child, as where the one that there was has died.
 func startsAgain(s *Store) error {
-	s.maintain <- struct{}{}
-	defer s.endMaintenance()
-	_ = s.steps.shut(background)
-	defer s.steps.open()
-	before := s.process
+	m, _ := s.beginMaintenance(background)
+	defer m.done()
+	x := m.alone()
+	defer x.open()
+	before := s.child.process
 	defer before.Kill()
-	return s.start()
+	return x.start()
 }
 
 // TestTokensAreKeptAfterAWholeStart has a start that fails when the child has carried out an End with a token: that may be taken back still.
@@ -249,17 +250,17 @@ func TestTokensAreKeptAfterAWholeStart(t *testing.T) {
 	defer s.Close(background)
 	st, sent := untold(t, s)
 	st.keep(nil, false)
-	log := s.journal
-	s.journal = &cut{Journal: log}
+	log := s.journal.Journal
+	s.journal.Journal = &cut{Journal: log}
 	err := startsAgain(s)
-	s.journal = log
+	s.journal.Journal = log
 	if _, has := s.Kept("b", "t0"); !errors.Is(err, journal.ErrUnread) || has {
 		t.Fatal(has, err)
 	}
 	if err := startsAgain(s); err != nil {
 		t.Fatal(err)
 	}
-	if _, err := s.outcome(sent.outcome); err != nil {
+	if _, err := s.inDoubt.outcome(sent.outcome); err != nil {
 		t.Fatal(err)
 	}
 	if _, has := s.Kept("b", "t0"); !has {
@@ -278,11 +279,11 @@ func TestWhatIsPerhapsTakenBackIsUnknown(t *testing.T) {
 	defer s.Close(background)
 	st, sent := untold(t, s)
 	st.keep(nil, false)
-	log := s.journal
-	s.journal = unsynced{log}
+	log := s.journal.Journal
+	s.journal.Journal = unsynced{log}
 	s.takeBackUntold()
-	s.journal = log
-	if _, err := s.outcome(sent.outcome); err != ErrUnknown {
+	s.journal.Journal = log
+	if _, err := s.inDoubt.outcome(sent.outcome); err != ErrUnknown {
 		t.Fatal(err)
 	}
 }
@@ -304,8 +305,8 @@ func TestAStreamOfTheChildBeforeTakesNothingBack(t *testing.T) {
 	c := plain(t, folder(t))
 	s := opened(t, c)
 	pushAll(t, s, "m0")
-	log := s.journal
-	s.journal = dropping{log}
+	log := s.journal.Journal
+	s.journal.Journal = dropping{log}
 	st, err := s.Begin(background, "a", Checkpoints)
 	if err != nil {
 		t.Fatal(err)
@@ -314,9 +315,21 @@ func TestAStreamOfTheChildBeforeTakesNothingBack(t *testing.T) {
 		t.Fatal(err)
 	}
 	st.GiveUp()
-	s.journal = log
+	s.journal.Journal = log
 	crash(s)
 	s = opened(t, c)
 	defer s.Close(background)
 	hasMessages(t, s, "a", "refs/heads/main", []string{"m0"})
+}
+
+// TestALossBeforeTheFirstChild has a log that reports a loss while the store still starts its first child: there is nothing that could be saved.
+func TestALossBeforeTheFirstChild(t *testing.T) {
+	defer func(was time.Duration) { rescueWithin = was }(rescueWithin)
+	rescueWithin = 100 * time.Millisecond
+	c := config(t, folder(t))
+	count := heard(&c)
+	newStore(&c, locks{}, filepath.Join(c.Folder, "pool")).Rescue()
+	if _, err := os.Stat(filepath.Join(c.Folder, rescuedName)); !errors.Is(err, os.ErrNotExist) || count("what the log lost is not saved") != 1 {
+		t.Fatal("a store without a child is saved", err)
+	}
 }

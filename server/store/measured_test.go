@@ -51,7 +51,7 @@ func TestStreamsCountWhatTheyWrite(t *testing.T) {
 	if s.Bytes("a") < commits*treeBytes {
 		t.Fatalf("%d bytes count", s.Bytes("a"))
 	}
-	if err := s.Recount(background, "a"); err != nil || s.Bytes("a") != s.sizes["a"].Bytes || s.Bytes("a") < commits*treeBytes {
-		t.Fatalf("%d bytes count, and the tenant has %d: %v", s.Bytes("a"), s.sizes["a"].Bytes, err)
+	if err := s.Recount(background, "a"); err != nil || s.Bytes("a") != s.usage.get("a").Bytes || s.Bytes("a") < commits*treeBytes {
+		t.Fatalf("%d bytes count, and the tenant has %d: %v", s.Bytes("a"), s.usage.get("a").Bytes, err)
 	}
 }

@@ -183,7 +183,7 @@ func TestAChildThatDiesWhileRedisIsAway(t *testing.T) {
 	s := opened(t, c)
 	pushAll(t, s, "m0")
 	server.Kill()
-	s.process.Kill()
+	s.child.process.Kill()
 	time.Sleep(1500 * time.Millisecond)
 	server.Restart()
 	hasMessages(t, s, "a", "refs/heads/main", []string{"m0"})

@@ -4,17 +4,8 @@ import (
 	"context"
 	"errors"
 	"fmt"
-	"os"
-	"path/filepath"
-	"sort"
-	"syscall"
+	"sync/atomic"
 	"time"
-
-	"gitpoold/child"
-	"gitpoold/faultpoint"
-	"gitpoold/frames"
-	"gitpoold/journal"
-	"gitpoold/poolfile"
 )
 
 // How a save is made stands in this file alone. The child writes the file and goes on, with all its streams. A stream that is open is in
@@ -26,203 +17,119 @@ const saveWithin = 30 * time.Minute
 // errNotSaved says that the child could not write the pool file. It has what it had, and so has the file.
 var errNotSaved = errors.New("the child did not save")
 
+// saver saves a store.
+type saver struct {
+	store *Store
+	// wanted has room for one: somebody asks Keep for a save.
+	wanted chan struct{}
+	// hasStarved says that a stream was given up for which the child had had no memory, and that no save came since.
+	hasStarved atomic.Bool
+}
+
 // Save brings the pool file to what the store has, and drops the journal's segments before. Where the pool file is up to date, it sees to
 // its copy alone, and where this store follows, it does nothing: then it saves where the other server does. On an error the pool file and the
 // journal together have everything, as before.
-func (s *Store) Save(ctx context.Context) error {
+func (v *saver) Save(ctx context.Context) error {
+	s := v.store
 	if s.isFollowing() {
 		return nil
 	}
-	endTurn := s.takeTurn(ctx)
+	endTurn := v.takeTurn(ctx)
 	defer endTurn()
-	if err := s.beginMaintenance(ctx); err != nil {
+	m, err := s.beginMaintenance(ctx)
+	if err != nil {
 		return err
 	}
-	defer s.endMaintenance()
+	defer m.done()
 	began := time.Now()
-	if err := s.removeHalfMerged(ctx); err != nil {
-		s.noteSave(began, err)
-		return err
-	}
-	if !s.journal.HasSteps() && !s.journal.IsHealedBySave() {
-		if err := s.bringCopy(); err != nil {
-			return err
+	if err = m.removeHalfMerged(ctx); err == nil {
+		if !s.journal.HasSteps() && !s.journal.IsHealedBySave() {
+			return m.saveNothing()
 		}
-		s.dropKept()
-		return nil
+		err = m.save(ctx, endTurn)
 	}
-	err := s.save(ctx, endTurn)
-	s.noteSave(began, err)
+	v.note(began, err)
 	return err
 }
 
-// dropKept lets a log in Redis drop what it keeps for servers that follow it, if there are none any more.
-func (s *Store) dropKept() {
-	if s.config.Log == nil {
-		return
-	}
-	if err := s.journal.Drop(); err != nil {
-		s.config.Tell("%v", err)
-	}
-}
-
-// beginMaintenance waits for its turn among what only one may do at a time: saves, requests of the operator, and another child.
-func (s *Store) beginMaintenance(ctx context.Context) error {
-	select {
-	case s.maintain <- struct{}{}:
-		return nil
-	case <-ctx.Done():
-		return ctx.Err()
-	}
-}
-
-func (s *Store) endMaintenance() { <-s.maintain }
-
-// save saves, and calls `written` when the pool file is written and not in its place yet.
-func (s *Store) save(ctx context.Context, written func()) error {
-	hadStarved, err := s.writeAndBegin(ctx)
-	written()
-	if err == nil {
-		err = s.renamePool()
-	}
-	if err == nil {
-		err = s.copyAndDrop()
-	}
-	if err != nil && hadStarved {
-		s.hasStarved.Store(true)
-	}
-	return err
-}
-
-// copyAndDrop copies the pool file, and drops what the journal had before it.
-func (s *Store) copyAndDrop() error {
-	if err := s.copyPool(); err != nil {
-		return fmt.Errorf("%s: %w", s.config.Copy, err)
-	}
-	return s.journal.Drop()
-}
-
-// renamePool makes the pool file that the child has written the one of this store.
-func (s *Store) renamePool() error {
-	faultpoint.Here("before the pool file is renamed")
-	if err := s.placePool(filepath.Join(s.work(), "pool")); err != nil {
+// BringCopy copies the pool file where its copy is not there or is another file, as after the operator has put a pool file in place. Where
+// that fails, it is tried again like a save that failed.
+func (v *saver) BringCopy(ctx context.Context) error {
+	m, err := v.store.beginMaintenance(ctx)
+	if err != nil {
 		return err
 	}
-	faultpoint.Here("after the pool file is renamed")
-	if err := syncFolder(filepath.Dir(s.pool)); err != nil {
+	defer m.done()
+	return m.pool.bringCopy()
+}
+
+// saveNothing sees to the copy of a pool file that is up to date, and lets a log in Redis drop what it keeps for servers that follow it no more.
+func (m maintenance) saveNothing() error {
+	if err := m.pool.bringCopy(); err != nil || m.config.Log == nil {
 		return err
 	}
-	faultpoint.Here("after the pool file is synced")
+	if err := m.journal.Drop(); err != nil {
+		m.config.Tell("%v", err)
+	}
 	return nil
 }
 
-// placePool puts a file in the place of the pool file, in one step. A link in the folder may lead to another file system.
-func (s *Store) placePool(from string) error {
-	err := os.Rename(from, s.pool)
-	if !errors.Is(err, syscall.EXDEV) {
-		return err
+// save saves, and calls `written` when the pool file is written and not in its place yet.
+func (m maintenance) save(ctx context.Context, written func()) error {
+	hadStarved, err := m.writeAndBegin(ctx)
+	written()
+	if err == nil {
+		err = m.pool.takeNext()
 	}
-	if err := os.RemoveAll(s.besidePool()); err != nil {
-		return err
+	if err == nil {
+		if err = m.pool.copy(); err != nil {
+			err = fmt.Errorf("%s: %w", m.config.Copy, err)
+		}
 	}
-	if err := copyFile(from, s.besidePool()); err != nil {
-		return err
+	if err == nil {
+		err = m.journal.Drop()
 	}
-	return os.Rename(s.besidePool(), s.pool)
+	if err != nil && hadStarved {
+		m.hasStarved.Store(true)
+	}
+	return err
 }
-
-// besidePool is where a pool file is on its way to another file system. A start removes what a kill has left there.
-func (s *Store) besidePool() string { return s.pool + ".next" }
 
 // writeAndBegin has the child write the pool file, and begins the segment of what comes after it. No step comes in between, so what is in
 // the file and what is in the segment are parted for all tenants at one place. The child answers nobody while it writes; a second one may.
 // It tells whether a stream had been given up because the child had no memory for it.
-func (s *Store) writeAndBegin(ctx context.Context) (hadStarved bool, err error) {
-	open, err := s.shutForSave(ctx)
+func (m maintenance) writeAndBegin(ctx context.Context) (hadStarved bool, err error) {
+	x, open, err := m.shutForSave(ctx)
 	if err != nil {
 		return false, err
 	}
 	defer open()
-	s.abandonLost()
-	hadStarved = s.hasStarved.Swap(false)
-	digest, err := s.writePool(s.process, s.room)
+	x.abandonLost()
+	hadStarved = x.hasStarved.Swap(false)
+	digest, err := x.pool.write(x.child.started)
 	if err == nil {
-		err = s.readSizes(s.process)
+		err = x.usage.readFrom(x.child.process)
 	}
 	if err == nil {
-		err = s.saveAnswers()
+		err = x.saveAnswers()
 	}
 	if err == nil {
-		err = s.journal.Begin(digest, s.openNumbers())
+		err = x.journal.Begin(digest, x.openNumbers())
 	}
 	return hadStarved, err
 }
 
 // abandonLost lets the child give up the streams of which the journal has lost steps. What they had at their last checkpoints has been read by
-// others, who may push on top of it, so the pool file is to have it. The gate `steps` is shut.
-func (s *Store) abandonLost() {
-	for _, tenant := range s.lostStreams() {
-		giveUp(context.Background(), s.process, tenant)
+// others, who may push on top of it, so the pool file is to have it.
+func (x exclusive) abandonLost() {
+	isLost := func(st *Stream) bool { return st.isOfChild(x) && !st.isInJournal() }
+	for _, st := range x.streams.those(isLost) {
+		giveUp(context.Background(), x.child.process, st.tenant)
 	}
 }
 
-func (s *Store) lostStreams() (tenants []string) {
-	s.mutex.Lock()
-	defer s.mutex.Unlock()
-	for tenant, stream := range s.open {
-		if stream.process == s.process && !stream.isEnded && !stream.isInJournal() {
-			tenants = append(tenants, tenant)
-		}
-	}
-	return tenants
-}
-
-// writePool has a child write the pool file that is to be the next one, and gives its digest.
-func (s *Store) writePool(process *child.Process, room string) (digest journal.Digest, err error) {
-	faultpoint.Here("before the child saves")
-	if _, err := s.requestOf(process, frames.Step{Kind: frames.Save, Body: frames.AsOpened}); err != nil {
-		return digest, fmt.Errorf("%w: %v", errNotSaved, err)
-	}
-	faultpoint.Here("after the child has saved")
-	next := filepath.Join(s.work(), "pool")
-	if err := os.RemoveAll(next); err != nil {
-		return digest, err
-	}
-	if err := linkOrCopy(filepath.Join(room, "pool"), next); err != nil {
-		return digest, err
-	}
-	found, err := poolfile.Digest(next)
-	return journal.Digest(found), err
-}
-
-// openNumbers gives the numbers of the Opens of the streams that the child has, in rising order. The gate `steps` is shut.
-func (s *Store) openNumbers() (numbers []uint64) {
-	s.mutex.Lock()
-	defer s.mutex.Unlock()
-	for _, stream := range s.open {
-		if number, isOpen := stream.openNumber(s.process); isOpen {
-			numbers = append(numbers, number)
-		}
-	}
-	sort.Slice(numbers, func(i, k int) bool { return numbers[i] < numbers[k] })
-	return numbers
-}
-
-// requestOf asks something of a child that nobody else uses meanwhile, and gives the reply. It may be Refused.
-func (s *Store) requestOf(process *child.Process, step frames.Step) ([]byte, error) {
-	soon, stop := context.WithTimeout(context.Background(), saveWithin)
-	defer stop()
-	answers, err := sendAndWait(soon, process, step)
-	if err != nil {
-		if soon.Err() != nil {
-			process.Kill()
-		}
-		return nil, err
-	}
-	return replies(answers)
-}
-
-func (s *Store) noteSave(began time.Time, err error) {
+func (v *saver) note(began time.Time, err error) {
+	s := v.store
 	if err != nil {
 		s.config.Tell("the pool is not saved: %v; the journal has all of it", err)
 		s.count(func(c *Counts) { c.FailedSaves++ })
@@ -230,13 +137,4 @@ func (s *Store) noteSave(began time.Time, err error) {
 	}
 	s.config.Tell("the pool is saved in %.1f s", time.Since(began).Seconds())
 	s.count(func(c *Counts) { c.Saves++; c.LastSave = time.Now() })
-}
-
-func syncFolder(folder string) error {
-	file, err := os.Open(folder)
-	if err != nil {
-		return err
-	}
-	defer file.Close()
-	return file.Sync()
 }

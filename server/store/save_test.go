@@ -168,8 +168,8 @@ func TestUsageIsCounted(t *testing.T) {
 	}
 	s.Save(background)
 	defer s.Close(background)
-	if s.Bytes("a") < 1000 || s.sizes["a"].Objects != 2 || s.sizes["a"].Refs != 1 || s.since["a"] != 0 {
-		t.Fatal(s.sizes, s.since)
+	if s.Bytes("a") < 1000 || s.usage.get("a").Objects != 2 || s.usage.get("a").Refs != 1 || s.usage.get("a").since != 0 {
+		t.Fatal(s.usage.get("a"))
 	}
 }
 
@@ -338,16 +338,16 @@ func TestABrokenJournalIsHealedSoon(t *testing.T) {
 func TestAChildThatCannotBeStartedLeavesNothing(t *testing.T) {
 	s := opened(t, config(t, folder(t)))
 	defer s.Close(background)
-	before, err := os.ReadDir(s.work())
+	before, err := os.ReadDir(s.config.work())
 	if err != nil {
 		t.Fatal(err)
 	}
-	for _, pool := range []string{s.folder("nowhere"), s.work()} {
-		if _, _, err := s.startChild(pool, io.Discard); err == nil {
+	for _, pool := range []string{s.config.file("nowhere"), s.config.work()} {
+		if _, err := s.config.startChild(pool, io.Discard); err == nil {
 			t.Fatal("a child has no pool file")
 		}
 	}
-	if after, err := os.ReadDir(s.work()); err != nil || len(after) != len(before) {
+	if after, err := os.ReadDir(s.config.work()); err != nil || len(after) != len(before) {
 		t.Fatalf("%d files are left, and there were %d: %v", len(after), len(before), err)
 	}
 }
@@ -359,7 +359,7 @@ func TestASaveThatFailsLosesNothing(t *testing.T) {
 	if err := push(s, "a", "refs/heads/main", "one"); err != nil {
 		t.Fatal(err)
 	}
-	place := s.room + "/pool"
+	place := s.child.room + "/pool"
 	os.Remove(place)
 	if err := os.MkdirAll(place+"/in the way", 0o700); err != nil {
 		t.Fatal(err)

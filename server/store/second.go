@@ -11,16 +11,15 @@ import (
 
 	"gitpoold/child"
 	"gitpoold/faultpoint"
-	"gitpoold/frames"
 	"gitpoold/journal"
-	"gitpoold/poolfile"
 )
 
 // How questions are answered while the child saves stands in this file.
 //
-// Before the gate `steps` is shut, a second child is started on the pool file, and carries the journal out as that of a store does that follows a
-// log; the first child goes on. Once the gate is shut, no record comes any more. So the second child carries out the last ones, and then has what
-// the first one has, and all that was told. It answers questions until the gate is open again. Nothing else comes of what it carries out.
+// Before a save keeps others from the child, a second one is started on the pool file, and carries the journal out as that of a store does that
+// follows a log; the first child goes on. Once nobody else uses that, no record comes any more. So the second child carries out the last ones, and
+// then has what the first one has, and all that was told. It answers questions until others use the first one again. Nothing else comes of what it
+// carries out.
 
 const (
 	// prepareWithin is how long a second child has to load the pool file and carry the journal out, while the first one goes on.
@@ -44,7 +43,7 @@ var (
 // second is a second child, on its way to what the first one has.
 type second struct {
 	started
-	store  *Store
+	maintenance
 	first  *child.Process
 	said   *lines
 	replay *replay
@@ -53,30 +52,30 @@ type second struct {
 	bytes, records int
 }
 
-// shutForSave shuts the gate `steps` for a save, and gives the call that opens it. Where the pool file is as large as the configuration says, a
-// second child answers questions meanwhile. Where there can be none, they wait.
-func (s *Store) shutForSave(ctx context.Context) (open func(), err error) {
-	it := s.prepareSecond(ctx)
-	if err := s.steps.shut(ctx); err != nil {
+// shutForSave waits until nobody else uses the child, for a save, and gives the call that lets others in again. Where the pool file is as large as
+// the configuration says, a second child answers questions meanwhile. Where there can be none, they wait.
+func (m maintenance) shutForSave(ctx context.Context) (x exclusive, open func(), err error) {
+	it := m.prepareSecond(ctx)
+	if x, err = m.shut(ctx); err != nil {
 		it.dismiss()
-		return nil, err
+		return x, nil, err
 	}
-	if it = it.unless(it.answer()); it != nil {
-		s.isAlone = false
+	if it = it.unless(it.answer(x)); it != nil {
+		m.isAlone = false
 	}
-	return func() {
-		s.steps.open()
+	return x, func() {
+		x.open()
 		it.dismiss()
 	}, nil
 }
 
 // prepareSecond starts a second child and brings it near to what the first one has. It is nil where there is none.
-func (s *Store) prepareSecond(ctx context.Context) *second {
-	if !s.wantsSecond() {
+func (m maintenance) prepareSecond(ctx context.Context) *second {
+	if !m.isLarge() || m.isHurried() || !m.isSame() {
 		return nil
 	}
 	faultpoint.Here("before a second child is started")
-	it := &second{store: s, first: s.process, said: &lines{tell: func(string, ...any) {}}}
+	it := &second{maintenance: m, first: m.child.process, said: &lines{tell: func(string, ...any) {}}}
 	err := it.start()
 	if err == nil {
 		err = it.within(ctx, prepareWithin, it.prepare)
@@ -85,8 +84,9 @@ func (s *Store) prepareSecond(ctx context.Context) *second {
 }
 
 // takeTurn waits until no other shard has a second child, where this one is to have one, and gives the call that ends the turn.
-func (s *Store) takeTurn(ctx context.Context) (end func()) {
-	if s.config.Turn == nil || !s.isLarge() {
+func (v *saver) takeTurn(ctx context.Context) (end func()) {
+	s := v.store
+	if s.config.Turn == nil || !v.isLarge() {
 		return func() {}
 	}
 	select {
@@ -100,27 +100,27 @@ func (s *Store) takeTurn(ctx context.Context) (end func()) {
 	return func() {}
 }
 
-// wantsSecond tells whether a save is to have a second child, and all that the first one has is in the journal.
-func (s *Store) wantsSecond() bool { return s.isLarge() && !s.isHurried() && s.isSame() }
-
 // isLarge tells whether the pool file, with its journal, is as large as the configuration says.
-func (s *Store) isLarge() bool {
+func (v *saver) isLarge() bool {
+	s := v.store
 	if s.config.SecondChild == nil {
 		return false
 	}
 	least := s.config.SecondChild()
-	info, err := os.Stat(s.pool)
+	info, err := os.Stat(s.pool.path)
 	return least > 0 && err == nil && info.Size()+s.journal.Bytes() >= least
 }
 
-// isSame tells whether the first child comes to nothing but what the pool file and the journal come to.
-func (s *Store) isSame() bool { return !s.journal.IsBroken() && s.journal.Losses() == s.losses }
+// isSame tells whether the child comes to nothing but what the pool file and the journal come to.
+func (m maintenance) isSame() bool {
+	return !m.journal.IsBroken() && m.journal.Losses() == m.child.losses
+}
 
 // isHurried tells whether the server stops, so that nobody may wait for a second child.
-func (s *Store) isHurried() bool {
+func (v *saver) isHurried() bool {
 	select {
-	case <-s.stopping:
-	case <-s.rescuing:
+	case <-v.store.stopping:
+	case <-v.store.rescuing:
 	default:
 		return false
 	}
@@ -132,14 +132,13 @@ func (it *second) unless(err error) *second {
 	if it == nil || err == nil {
 		return it
 	}
-	s := it.store
 	if last := it.said.last(); last != "" {
 		err = fmt.Errorf("%w (%s)", err, last)
 	}
-	if !s.isAlone && !s.isHurried() {
-		s.config.Tell("who reads waits while the pool is saved, for there is no second child: %v", err)
+	if !it.isAlone && !it.isHurried() {
+		it.config.Tell("who reads waits while the pool is saved, for there is no second child: %v", err)
 	}
-	s.isAlone = true
+	it.isAlone = true
 	if it.process != nil {
 		// Nobody has asked it.
 		it.process.Kill()
@@ -152,19 +151,12 @@ func (it *second) start() (err error) {
 	if err := hasMemory(it.first); err != nil {
 		return err
 	}
-	s := it.store
-	if it.process, it.room, err = s.startChild(s.pool, it.said); err != nil {
+	if it.started, err = it.config.startChild(it.pool.path, it.said); err != nil {
 		return err
 	}
 	faultpoint.SetSecond(it.process.Pid())
-	s.setSecond(it.process)
+	it.child.second.Store(it.process)
 	return nil
-}
-
-func (s *Store) setSecond(process *child.Process) {
-	s.mutex.Lock()
-	defer s.mutex.Unlock()
-	s.second = process
 }
 
 // within does something with the second child, which is ended where that takes too long, or where nobody may wait for it any more.
@@ -180,8 +172,8 @@ func (it *second) within(ctx context.Context, most time.Duration, do func() erro
 		case <-timer.C:
 		case <-ctx.Done():
 		case <-it.first.Gone():
-		case <-it.store.stopping:
-		case <-it.store.rescuing:
+		case <-it.stopping:
+		case <-it.rescuing:
 		}
 		it.process.Kill()
 	}()
@@ -190,22 +182,20 @@ func (it *second) within(ctx context.Context, most time.Duration, do func() erro
 
 // prepare loads the pool file, and carries the journal out until little of it is left.
 func (it *second) prepare() error {
-	s := it.store
-	digest, err := poolfile.Digest(s.pool)
-	if err != nil {
-		return err
+	digest, err := it.pool.digest()
+	if err == nil {
+		err = it.hasLoaded()
 	}
-	// It is answered when the child has loaded the pool file.
-	if _, err := s.requestOf(it.process, frames.Step{Kind: frames.Sizes}); err != nil {
+	if err != nil {
 		return err
 	}
 	faultpoint.Here("after a second child is started")
-	fate, err := s.fateOf(journal.Digest(digest))
+	fate, err := it.journal.fateOf(digest)
 	if err != nil {
 		return err
 	}
-	it.replay = newOngoing(it.process, fate)
-	if it.reader, err = s.journal.Reader(journal.Digest(digest), it.take); err != nil {
+	it.replay = newOngoing(it.started, fate)
+	if it.reader, err = it.journal.Reader(digest, it.take); err != nil {
 		return err
 	}
 	for turn := 0; turn < mostTurns; turn++ {
@@ -234,24 +224,23 @@ func (it *second) take(record journal.Record) error {
 	return it.replay.take(record)
 }
 
-// answer lets the second child carry out the last records, and answer questions from then on. The gate `steps` is shut.
-func (it *second) answer() error {
+// answer lets the second child carry out the last records, and answer questions from then on.
+func (it *second) answer(x exclusive) error {
 	if it == nil {
 		return nil
 	}
-	s := it.store
 	err := it.within(context.Background(), arriveWithin, it.carryOn)
-	if err == nil && !s.isSame() {
+	if err == nil && !x.isSame() {
 		err = errUnsame
 	}
 	if err != nil {
 		return err
 	}
 	faultpoint.Here("before a second child answers")
-	s.steps.putBeside(it.process)
+	x.child.putBeside(it.process)
 	go func() {
 		<-it.process.Gone()
-		s.steps.dropBeside(it.process)
+		x.child.dropBeside(it.process)
 	}()
 	return nil
 }
@@ -267,7 +256,7 @@ func (it *second) dismiss() {
 	if it.reader != nil {
 		it.reader.Close()
 	}
-	it.store.setSecond(nil)
+	it.child.second.Store(nil)
 	faultpoint.SetSecond(0)
 	faultpoint.Here("after a second child is ended")
 }

@@ -65,16 +65,16 @@ func must(t testing.TB, err error) {
 }
 
 func (s *Store) isShut() bool {
-	s.steps.mutex.Lock()
-	defer s.steps.mutex.Unlock()
-	return s.steps.isShut
+	s.child.mutex.Lock()
+	defer s.child.mutex.Unlock()
+	return s.child.isShut
 }
 
 // secondOf gives the second child, if one answers.
 func secondOf(s *Store) *child.Process {
-	s.steps.mutex.Lock()
-	defer s.steps.mutex.Unlock()
-	return s.steps.beside
+	s.child.mutex.Lock()
+	defer s.child.mutex.Unlock()
+	return s.child.beside
 }
 
 // waits tells whether nothing comes for a while.
@@ -126,7 +126,7 @@ func TestQuestionsAreAnsweredDuringASave(t *testing.T) {
 		hasMessages(t, s, "a", "refs/heads/main", []string{"m0", "m1", "m2"})
 		hasMessages(t, s, "f", "refs/heads/main", []string{"one", "two"})
 		hasMessages(t, s, "w", "refs/heads/main", []string{"one"})
-		if left, err := filepath.Glob(s.work() + "/child-*"); len(left) != 1 || s.State().SecondPid != 0 {
+		if left, err := filepath.Glob(s.config.work() + "/child-*"); len(left) != 1 || s.State().SecondPid != 0 {
 			t.Fatal("the second child left something:", left, err)
 		}
 		crash(s)
@@ -171,7 +171,7 @@ func TestWhatWasToldIsAnsweredDuringSaves(t *testing.T) {
 	}
 	stop()
 	all.Wait()
-	if s.isAlone || s.Counts().Recoveries > 0 {
+	if wasAlone(s) || s.Counts().Recoveries > 0 {
 		t.Fatal("a save had no second child, or the first one was replaced")
 	}
 	s.Close(background)
@@ -415,7 +415,7 @@ func TestShardsTakeTurns(t *testing.T) {
 	hasMessages(t, s, "b", "refs/heads/main", []string{"m0", "m1"})
 	<-c.Turn
 	must(t, <-saved)
-	if len(c.Turn) > 0 || s.Counts().Saves != 1 || s.isAlone {
+	if len(c.Turn) > 0 || s.Counts().Saves != 1 || wasAlone(s) {
 		t.Fatal(len(c.Turn), s.Counts())
 	}
 	pushAll(t, s, "m2")
@@ -487,4 +487,11 @@ func TestALeaderOrItsReplicaAnswers(t *testing.T) {
 	if follower.Counts().Saves != 1 {
 		t.Fatal("the replica has not saved")
 	}
+}
+
+// wasAlone tells whether the last save had no second child, although it should have had one.
+func wasAlone(s *Store) bool {
+	m, _ := s.beginMaintenance(background)
+	defer m.done()
+	return m.isAlone
 }

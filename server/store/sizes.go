@@ -4,6 +4,8 @@ import (
 	"bytes"
 	"context"
 	"fmt"
+	"sort"
+	"sync"
 
 	"gitpoold/child"
 	"gitpoold/frames"
@@ -22,40 +24,110 @@ const BesideRef = 64
 // refSize is how many refs a tenant had when the child was asked, and how many bytes count for them.
 type refSize struct{ count, bytes int64 }
 
-// readSizes asks the child what each tenant has. Nobody else uses the process meanwhile, or the gate `steps` is shut.
-func (s *Store) readSizes(process *child.Process) error {
-	reply, err := s.requestOf(process, frames.Step{Kind: frames.Sizes})
+// with counts the bytes of refs too.
+func (s Size) with(refs refSize) Size {
+	return Size{s.Objects, s.Bytes + refs.bytes, s.Own + refs.bytes, s.Refs}
+}
+
+// had is what a tenant had when the child was last asked, if it told that, what streams have brought since, and the most that they may have.
+type had struct {
+	Size
+	refs         refSize
+	isTold       bool
+	since, bound int64
+}
+
+// usage is what each tenant had.
+type usage struct {
+	mutex sync.Mutex
+	of    map[string]had
+	total int64
+}
+
+func (u *usage) get(tenant string) had {
+	u.mutex.Lock()
+	defer u.mutex.Unlock()
+	return u.of[tenant]
+}
+
+// add notes what a stream has brought to a tenant, and the most that it may have brought.
+func (u *usage) add(tenant string, brought, bound int64) {
+	u.mutex.Lock()
+	defer u.mutex.Unlock()
+	it := u.of[tenant]
+	it.since, it.bound = it.since+brought, sum(it.bound, bound)
+	u.of[tenant] = it
+	u.total += brought
+}
+
+// Bytes tells how many bytes a tenant has: the contents of its objects when the child was last asked, and what it was fed since.
+func (u *usage) Bytes(tenant string) int64 {
+	it := u.get(tenant)
+	return it.Bytes + it.since
+}
+
+// AtMost tells how many bytes a tenant has at most.
+func (u *usage) AtMost(tenant string) int64 {
+	it := u.get(tenant)
+	return sum(it.Bytes, it.bound)
+}
+
+// Has tells whether a tenant has something, when the child was last asked or since.
+func (u *usage) Has(tenant string) bool {
+	it := u.get(tenant)
+	return it.isTold || it.since > 0
+}
+
+// Usage is what a tenant has: its size when the child was last asked, and the bytes that it was fed since.
+type Usage struct {
+	Name string
+	Size
+	Since int64
+}
+
+// Usages gives what each tenant has, in the order of their names.
+func (u *usage) Usages() (all []Usage) {
+	u.mutex.Lock()
+	defer u.mutex.Unlock()
+	for name, it := range u.of {
+		all = append(all, Usage{name, it.Size, it.since})
+	}
+	sort.Slice(all, func(i, k int) bool { return all[i].Name < all[k].Name })
+	return all
+}
+
+// Total is how many bytes all tenants have.
+func (u *usage) Total() int64 {
+	_, total := u.all()
+	return total
+}
+
+// all tells how many tenants have something, and how many bytes they have.
+func (u *usage) all() (tenants int, bytes int64) {
+	u.mutex.Lock()
+	defer u.mutex.Unlock()
+	return len(u.of), u.total
+}
+
+// readFrom asks a child that nobody else uses what each tenant has.
+func (u *usage) readFrom(process *child.Process) error {
+	sizes, err := askSizes(process)
 	if err != nil {
 		return err
 	}
-	sizes, err := parseSizes(reply)
+	known, fed := u.knownRefs(sizes)
+	if err = askRefs(process, sizes, known); err == nil {
+		u.takeSizes(sizes, known, fed)
+	}
+	return err
+}
+
+// askSizes asks a child what each tenant has, beside the names of refs.
+func askSizes(process *child.Process) (map[string]Size, error) {
+	reply, err := request(process, frames.Step{Kind: frames.Sizes})
 	if err != nil {
-		return err
+		return nil, err
 	}
-	known, before := s.knownRefs(sizes)
-	if err := s.askRefs(process, sizes, known); err != nil {
-		return err
-	}
-	s.takeSizes(sizes, known, before)
-	return nil
-}
-
-// RecountAll asks the child what tenants have at their last checkpoints, for Usages and Bytes. It waits for its turn as long as the context lasts.
-func (s *Store) RecountAll(ctx context.Context) error {
-	if s.isClosing() {
-		return ErrClosed
-	}
-	for _, hold := range []func(context.Context) (func(), error){s.Unsaved, s.holdTurn, s.Shut} {
-		end, err := hold(ctx)
-		if err != nil {
-			return err
-		}
-		defer end()
-	}
-	return s.readSizes(s.process)
-}
-
-func parseSizes(reply []byte) (map[string]Size, error) {
 	sizes := map[string]Size{}
 	for _, line := range bytes.Split(bytes.TrimSuffix(reply, []byte("\n")), []byte("\n")) {
 		var name string
@@ -73,15 +145,15 @@ func parseSizes(reply []byte) (map[string]Size, error) {
 }
 
 // knownRefs gives what is known of the refs of tenants that were fed nothing since they were asked for, and how much each was fed.
-func (s *Store) knownRefs(sizes map[string]Size) (known map[string]refSize, fed map[string]int64) {
+func (u *usage) knownRefs(sizes map[string]Size) (known map[string]refSize, fed map[string]int64) {
 	known, fed = map[string]refSize{}, map[string]int64{}
-	s.mutex.Lock()
-	defer s.mutex.Unlock()
+	u.mutex.Lock()
+	defer u.mutex.Unlock()
 	for name, it := range sizes {
-		if refs, has := s.refs[name]; has && refs.count == it.Refs && s.since[name] == 0 {
-			known[name] = refs
+		before := u.of[name]
+		if fed[name] = before.since; before.refs.count == it.Refs && before.since == 0 {
+			known[name] = before.refs
 		}
-		fed[name] = s.since[name]
 	}
 	return known, fed
 }
@@ -93,7 +165,7 @@ const (
 )
 
 // askRefs asks the child for the refs of all tenants of which they are not known.
-func (s *Store) askRefs(process *child.Process, sizes map[string]Size, known map[string]refSize) error {
+func askRefs(process *child.Process, sizes map[string]Size, known map[string]refSize) error {
 	var names []string
 	refs := int64(0)
 	for name, it := range sizes {
@@ -147,19 +219,19 @@ func sizeOfRefs(count int64, told frames.Answer) refSize {
 }
 
 // takeSizes takes what tenants have. A stream may have ended since the child was asked: then its tenant is asked for again.
-func (s *Store) takeSizes(sizes map[string]Size, known map[string]refSize, fed map[string]int64) {
-	s.mutex.Lock()
-	defer s.mutex.Unlock()
-	total := int64(0)
+func (u *usage) takeSizes(sizes map[string]Size, known map[string]refSize, fed map[string]int64) {
+	u.mutex.Lock()
+	defer u.mutex.Unlock()
+	before := u.of
+	u.of, u.total = map[string]had{}, 0
 	for name, it := range sizes {
-		refs := known[name].bytes
-		sizes[name] = Size{it.Objects, it.Bytes + refs, it.Own + refs, it.Refs}
-		total += it.Bytes + refs
-		if s.since[name] != fed[name] {
-			delete(known, name)
+		now := had{Size: it.with(known[name]), isTold: true}
+		if before[name].since == fed[name] {
+			now.refs = known[name]
 		}
+		u.of[name] = now
+		u.total += now.Bytes
 	}
-	s.sizes, s.refs, s.since, s.bounds, s.total = sizes, known, map[string]int64{}, map[string]int64{}, total
 }
 
 // unbounded is a bound that says nothing.
@@ -173,16 +245,14 @@ func sum(a, b int64) int64 {
 	return a + b
 }
 
-// AtMost tells how many bytes a tenant has at most.
-func (s *Store) AtMost(tenant string) int64 {
-	s.mutex.Lock()
-	defer s.mutex.Unlock()
-	return sum(s.sizes[tenant].Bytes, s.bounds[tenant])
-}
-
-// isCounted tells whether nothing has changed in a tenant since the child was asked what it has.
-func (s *Store) isCounted(tenant string) bool {
-	s.mutex.Lock()
-	defer s.mutex.Unlock()
-	return s.since[tenant] == 0 && s.bounds[tenant] == 0
+// measured takes what a tenant has. Its own bytes are those that came beside the ones before, which a copy that stands aside has too.
+func (u *usage) measured(tenant string, size Size, refs refSize) {
+	u.mutex.Lock()
+	defer u.mutex.Unlock()
+	before := u.of[tenant]
+	if size.Own += before.Own; size.Own > size.Bytes {
+		size.Own = size.Bytes
+	}
+	u.total += size.Bytes - before.Bytes - before.since
+	u.of[tenant] = had{Size: size, refs: refs, isTold: true}
 }

@@ -96,7 +96,7 @@ func TestRefsOfWhoIsUnchangedAreNotAskedFor(t *testing.T) {
 	}
 	before := s.Bytes("t8")
 	must(t, s.Save(background))
-	if s.Bytes("t8") != before || s.refs["t7"].count != 3 {
-		t.Fatal(s.Bytes("t8"), before, s.refs["t7"])
+	if s.Bytes("t8") != before || s.usage.get("t7").refs.count != 3 {
+		t.Fatal(s.Bytes("t8"), before, s.usage.get("t7").refs)
 	}
 }

@@ -14,15 +14,14 @@ import (
 	"fmt"
 	"os"
 	"path/filepath"
-	"sort"
 	"sync"
 	"sync/atomic"
 	"syscall"
 	"time"
 
-	"gitpoold/answers"
 	"gitpoold/child"
 	"gitpoold/frames"
+	"gitpoold/idempotency"
 	"gitpoold/journal"
 	"gitpoold/poolfile"
 	"gitpoold/regular"
@@ -72,57 +71,24 @@ type Config struct {
 
 // Store is one pool. Its methods may be called by many goroutines at once.
 type Store struct {
-	config Config
-	// pool is the path of the pool file, where a link in the folder leads to one elsewhere.
-	pool     string
+	config   *Config
+	pool     poolFile
 	locks    locks
-	journal  journal.Journal
-	follower *follower
-	maintain chan struct{}
-	wanted   chan struct{}
+	journal  *wal
+	child    *childGate
+	streams  openStreams
+	maintain chan *upkeep
 	stopping chan struct{}
 	closing  chan struct{}
 	once     sync.Once
-	rescued  sync.Once
-	rescuing chan struct{}
 
-	// Who is inside `steps` may use the process; while the gate is shut, it is replaced, saves, or carries out a request of the operator.
-	// `losses` is how often the journal had lost records when the process began.
-	steps   *gate
-	process *child.Process
-	room    string
-	losses  uint64
-
-	// halfMerged are the tenants of merges that the log may have, and this store has not; whoever has the turn of maintenance uses it.
-	halfMerged []string
-
-	// answers are those of streams with tokens; `keeping` has the Ends whose answers are not among them yet.
-	answers *answers.Kept
-	keeping sync.WaitGroup
-
-	// Each stream is inside `streams`. While that gate is shut, no stream is open and none begins. Who shuts it has `merging`.
-	streams *gate
-	merging sync.Mutex
-
-	mutex  sync.Mutex
-	newest *child.Process
-	second *child.Process
-	open   map[string]*Stream
-	ends   map[uint64]end
-	sizes  map[string]Size
-	refs   map[string]refSize
-	since  map[string]int64
-	// bounds are the most that tenants may have beside their sizes.
-	bounds map[string]int64
-	total  int64
-	counts Counts
-	taken  atomic.Int64
-	// isCopyLate says that the pool file could not be copied.
-	isCopyLate atomic.Bool
-	// hasStarved says that a stream was given up for which the child had had no memory, and that no save came since.
-	hasStarved atomic.Bool
-	// isAlone says that the last save had no second child, although it should have had one; whoever saves sets it.
-	isAlone bool
+	*follower
+	keptAnswers
+	recovery
+	saver
+	usage
+	counters
+	inDoubt inDoubt
 }
 
 // Counts are what a store did since its start.
@@ -134,82 +100,112 @@ type Counts struct {
 	EndedAt time.Time
 }
 
+// counters count what a store does.
+type counters struct {
+	mutex  sync.Mutex
+	counts Counts
+	steps  atomic.Int64
+}
+
+func (c *counters) count(change func(*Counts)) {
+	c.mutex.Lock()
+	defer c.mutex.Unlock()
+	change(&c.counts)
+}
+
+// Counts gives what the store did.
+func (c *counters) Counts() Counts {
+	c.mutex.Lock()
+	defer c.mutex.Unlock()
+	counts := c.counts
+	counts.Steps = c.steps.Load()
+	return counts
+}
+
 // Open takes a pool up: it reads the journal through, starts the child, and carries out what the pool file has not.
 func Open(config Config) (*Store, error) {
-	pool, err := poolfile.Find(filepath.Join(config.Folder, "pool"))
+	held, pool, err := lockAll(config.Folder)
 	if err != nil {
 		return nil, err
 	}
-	held, err := lockAll(config.Folder, pool)
-	if err != nil {
-		return nil, err
-	}
-	s := &Store{config: config, pool: pool, locks: held, maintain: make(chan struct{}, 1), wanted: make(chan struct{}, 1),
-		stopping: make(chan struct{}), closing: make(chan struct{}), rescuing: make(chan struct{}), steps: newGate(), streams: newGate(),
-		open: map[string]*Stream{}, ends: map[uint64]end{}}
+	s := newStore(&config, held, pool)
 	if err := s.begin(); err != nil {
 		held.close()
 		return nil, err
 	}
+	s.maintain <- &upkeep{}
 	return s, nil
 }
 
+// newStore gives a store that has no child. Nobody has the turn of maintenance until it has one: a log may report a loss before.
+func newStore(config *Config, held locks, pool string) *Store {
+	closing := make(chan struct{})
+	s := &Store{config: config, pool: poolFile{config: config, path: pool}, locks: held, journal: &wal{tell: config.Tell},
+		child: &childGate{gate: newGate(), closing: closing}, streams: openStreams{gate: newGate(), of: map[string]*Stream{}},
+		maintain: make(chan *upkeep, 1), stopping: make(chan struct{}), closing: closing,
+		inDoubt: inDoubt{ends: map[uint64]end{}, closing: closing}, saver: saver{wanted: make(chan struct{}, 1)},
+		recovery: recovery{rescuing: make(chan struct{})}}
+	s.saver.store, s.recovery.store, s.keptAnswers.log = s, s, s.journal
+	return s
+}
+
 func (s *Store) begin() error {
-	for _, folder := range []string{s.work(), s.folder("journal")} {
+	for _, folder := range []string{s.config.work(), s.config.file("journal")} {
 		if err := os.MkdirAll(folder, 0o700); err != nil {
 			return err
 		}
 	}
-	if err := sweep(s.work()); err != nil {
+	if err := sweep(s.config.work()); err != nil {
 		return err
 	}
-	if err := dropUnfinished(s.folder(rescuedName)); err != nil {
+	if err := dropUnfinished(s.config.file(rescuedName)); err != nil {
 		return err
 	}
-	if err := os.RemoveAll(s.besidePool()); err != nil {
+	if err := os.RemoveAll(s.pool.beside()); err != nil {
 		return err
 	}
-	digest, err := poolfile.Digest(s.pool)
+	digest, err := s.pool.digest()
 	if err != nil {
 		return err
 	}
-	if s.answers, err = answers.Open(s.config.Folder, s.config.Tell); err != nil {
+	if s.answers, err = idempotency.Open(s.config.Folder, s.config.Tell); err != nil {
 		return err
 	}
-	if err := s.openJournal(digest); err != nil {
+	if s.journal.Journal, err = s.openJournal(digest); err != nil {
 		return err
 	}
-	if err := s.start(); err != nil {
+	// Nobody else has the store yet.
+	if err := (exclusive{maintenance{Store: s}}).start(); err != nil {
 		s.journal.Close()
 		return err
 	}
 	if s.follower != nil {
-		go s.followOn()
+		go s.follower.followOn()
 	}
 	return nil
 }
-
-func (s *Store) folder(name string) string { return filepath.Join(s.config.Folder, name) }
-
-func (s *Store) work() string { return s.folder("work") }
 
 // locks keep others out for as long as they are open: a second server of the folder, and a run of the program on its pool file, by the name that it
 // has in the folder and by the one to which a link leads.
 type locks struct{ folder, pool, linked *os.File }
 
-func lockAll(folder, pool string) (l locks, err error) {
-	if l.folder, err = lockFile(filepath.Join(folder, "lock")); err != nil {
-		return locks{}, fmt.Errorf("%s: %w", folder, err)
-	}
+// lockAll locks a folder, and finds where its pool file is.
+func lockAll(folder string) (l locks, pool string, err error) {
 	named := filepath.Join(folder, "pool")
+	if pool, err = poolfile.Find(named); err != nil {
+		return l, "", err
+	}
+	if l.folder, err = lockFile(filepath.Join(folder, "lock")); err != nil {
+		return locks{}, "", fmt.Errorf("%s: %w", folder, err)
+	}
 	if l.pool, err = lockFile(named + ".new"); err == nil && !isSameFolder(pool, named) {
 		l.linked, err = lockFile(pool + ".new")
 	}
 	if err != nil {
 		l.close()
-		return locks{}, fmt.Errorf("%s: %w", named, err)
+		return locks{}, "", fmt.Errorf("%s: %w", named, err)
 	}
-	return l, nil
+	return l, pool, nil
 }
 
 // isSameFolder tells whether two paths have the same name in the same folder, whatever that folder is called.
@@ -220,11 +216,7 @@ func isSameFolder(one, other string) bool {
 
 // Hold keeps servers from a folder, in which none runs, until the call that it gives. It is ErrInHand where one runs.
 func Hold(folder string) (release func(), err error) {
-	pool, err := poolfile.Find(filepath.Join(folder, "pool"))
-	if err != nil {
-		return nil, err
-	}
-	held, err := lockAll(folder, pool)
+	held, _, err := lockAll(folder)
 	if err != nil {
 		return nil, err
 	}
@@ -277,23 +269,6 @@ func (l locks) close() {
 	l.folder.Close()
 }
 
-// sweep removes the rooms of children whose server was killed.
-func sweep(folder string) error {
-	entries, err := os.ReadDir(folder)
-	if err != nil {
-		return err
-	}
-	for _, entry := range entries {
-		if err := os.RemoveAll(filepath.Join(folder, entry.Name())); err != nil {
-			return err
-		}
-	}
-	return nil
-}
-
-// Batch is a run of questions that were asked together.
-type Batch = child.Batch
-
 // Answers are those to questions that were asked together. They may be waited for.
 type Answers interface {
 	// Wait gives the answers in the order of the questions, child.ErrGone, or the context's error.
@@ -304,88 +279,42 @@ type Answers interface {
 // the context lasts. A store that follows a log first comes to what the log has; else it is journal.ErrBehind.
 func (s *Store) Ask(ctx context.Context, class child.Class, steps ...frames.Step) (Answers, error) {
 	for {
-		beside, err := s.enterFresh(ctx)
+		in, err := s.enterFresh(ctx)
 		if err != nil {
 			return nil, err
 		}
-		batch, err := s.askOf(ctx, beside, class, steps)
-		if beside == nil || !errors.Is(err, child.ErrGone) {
-			s.taken.Add(int64(len(steps)))
+		batch, err := in.process.Send(ctx, class, steps...)
+		in.leave()
+		if !in.isBeside || !errors.Is(err, child.ErrGone) {
+			s.counters.steps.Add(int64(len(steps)))
 			return batch, err
 		}
 		// It has ended, or is about to.
-		s.steps.dropBeside(beside)
+		s.child.dropBeside(in.process)
 	}
 }
 
-// askOf sends questions to a second child, or to the first one; then the caller has entered the gate `steps`, and is out afterwards.
-func (s *Store) askOf(ctx context.Context, beside *child.Process, class child.Class, steps []frames.Step) (*Batch, error) {
-	if beside != nil {
-		return beside.Send(ctx, class, steps...)
-	}
-	defer s.steps.leave()
-	return s.process.Send(ctx, class, steps...)
-}
-
-// enter goes through the gate `steps`, unless the store closes.
-func (s *Store) enter(ctx context.Context) error {
-	if s.isClosing() {
+// RecountAll asks the child what tenants have at their last checkpoints, for Usages and Bytes. It waits for its turn as long as the context lasts.
+func (s *Store) RecountAll(ctx context.Context) error {
+	if s.child.isClosing() {
 		return ErrClosed
 	}
-	return s.steps.enter(ctx)
-}
-
-// enterOrBeside does the same for a question, unless it gives a second child that answers that.
-func (s *Store) enterOrBeside(ctx context.Context) (*child.Process, error) {
-	if s.isClosing() {
-		return nil, ErrClosed
+	m, err := s.beginMaintenance(ctx)
+	if err != nil {
+		return err
 	}
-	return s.steps.enterOrBeside(ctx)
-}
-
-func (s *Store) count(change func(*Counts)) {
-	s.mutex.Lock()
-	defer s.mutex.Unlock()
-	change(&s.counts)
-}
-
-// Bytes tells how many bytes a tenant has: the contents of its objects when the child was last asked, and what it was fed since.
-func (s *Store) Bytes(tenant string) int64 {
-	s.mutex.Lock()
-	defer s.mutex.Unlock()
-	return s.sizes[tenant].Bytes + s.since[tenant]
-}
-
-// Counts gives what the store did.
-func (s *Store) Counts() Counts {
-	s.mutex.Lock()
-	defer s.mutex.Unlock()
-	counts := s.counts
-	counts.Steps = s.taken.Load()
-	return counts
-}
-
-// Usage is what a tenant has: its size when the child was last asked, and the bytes that it was fed since.
-type Usage struct {
-	Name string
-	Size
-	Since int64
-}
-
-// Usages gives what each tenant has, in the order of their names.
-func (s *Store) Usages() (all []Usage) {
-	s.mutex.Lock()
-	defer s.mutex.Unlock()
-	for name, size := range s.sizes {
-		all = append(all, Usage{name, size, s.since[name]})
+	defer m.done()
+	turn, err := s.follower.holdTurn(ctx)
+	if err != nil {
+		return err
 	}
-	for name, since := range s.since {
-		if _, isSaved := s.sizes[name]; !isSaved {
-			all = append(all, Usage{Name: name, Since: since})
-		}
+	defer turn.end()
+	x, err := m.shut(ctx)
+	if err != nil {
+		return err
 	}
-	sort.Slice(all, func(i, k int) bool { return all[i].Name < all[k].Name })
-	return all
+	defer x.open()
+	return s.usage.readFrom(s.child.process)
 }
 
 // State is how a store stands now.
@@ -394,10 +323,9 @@ type State struct {
 	Streams       int
 	JournalBytes  int64
 	JournalBroken bool
-	FirstSegment  uint64
-	LastSegment   uint64
-	Records       uint64
 	IsAnswering   bool
+	// Records is the number of the last record.
+	FirstSegment, LastSegment, Records uint64
 	// SecondPid is the process of the second child, which there is for the time of a save.
 	ChildPid, SecondPid int
 	// Tenants is how many tenants have something, and TenantBytes how much all of them have.
@@ -412,23 +340,16 @@ func (s *Store) State() State {
 	state := State{Counts: s.Counts(), JournalBytes: s.journal.Bytes(), JournalBroken: s.journal.IsBroken(),
 		Records: s.journal.Number()}
 	state.FirstSegment, state.LastSegment = s.journal.Segments()
-	if log, isRedis := s.journal.(interface{ Counts() journal.RedisCounts }); isRedis {
+	if log, isRedis := s.journal.Journal.(interface{ Counts() journal.RedisCounts }); isRedis {
 		counts := log.Counts()
 		state.Log = &counts
 	}
-	s.mutex.Lock()
-	state.Streams, state.Tenants, state.TenantBytes = len(s.open), len(s.sizes), s.total
-	for name := range s.since {
-		if _, isSaved := s.sizes[name]; !isSaved {
-			state.Tenants++
-		}
+	state.Tenants, state.TenantBytes = s.usage.all()
+	state.Streams = len(s.streams.those(func(*Stream) bool { return true }))
+	if second := s.child.second.Load(); second != nil {
+		state.SecondPid = second.Pid()
 	}
-	newest := s.newest
-	if s.second != nil {
-		state.SecondPid = s.second.Pid()
-	}
-	s.mutex.Unlock()
-	if s.steps.isAnswering() {
+	if newest := s.child.newest.Load(); s.child.isAnswering() {
 		state.IsAnswering, state.ChildPid = true, newest.Pid()
 	}
 	return state
@@ -450,13 +371,13 @@ func (s *Store) Abort() {
 
 func (s *Store) end() {
 	s.once.Do(func() { close(s.closing) })
-	s.maintain <- struct{}{}
-	s.process.Kill()
+	m, _ := s.beginMaintenance(context.Background())
+	s.child.process.Kill()
 	// Whoever waits inside for the child has been told that it is gone.
-	_ = s.steps.shut(context.Background())
-	os.RemoveAll(s.room)
+	m.alone()
+	os.RemoveAll(s.child.room)
 	if s.follower != nil {
-		<-s.follower.ended
+		<-s.ended
 	}
 	s.journal.Close()
 	s.locks.close()

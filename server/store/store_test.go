@@ -61,8 +61,8 @@ func opened(t testing.TB, c Config) *Store {
 // crash ends a store as signal 9 would end the server and its child.
 func crash(s *Store) {
 	s.once.Do(func() { close(s.closing) })
-	s.process.Kill()
-	s.maintain <- struct{}{}
+	s.child.process.Kill()
+	<-s.maintain
 	s.journal.Close()
 	// A process that is killed leaves the name of the lock file.
 	s.locks.pool.Close()
@@ -361,10 +361,9 @@ func TestChildrenThatDieLoseNothing(t *testing.T) {
 	random := rand.New(rand.NewSource(1))
 	for k := 0; k < 12; k++ {
 		time.Sleep(time.Duration(random.Intn(20)) * time.Millisecond)
-		s.steps.enter(background)
-		process := s.process
-		s.steps.leave()
-		process.Kill()
+		in, _ := s.child.enter(background)
+		in.leave()
+		in.process.Kill()
 	}
 	all.Wait()
 	for round := 0; round < 2; round++ {
@@ -391,7 +390,7 @@ func TestAServerWithoutAProgramStops(t *testing.T) {
 		t.Fatal(err)
 	}
 	os.Remove(c.Program)
-	s.process.Kill()
+	s.child.process.Kill()
 	closed := make(chan error)
 	go func() { time.Sleep(50 * time.Millisecond); closed <- s.Close(background) }()
 	if err := await.From(t, "the end of the server", closed); err == nil {
@@ -405,9 +404,9 @@ func TestAServerWithoutAProgramStops(t *testing.T) {
 
 // TestAnOutcomeMayComeEarly has a child that carries an end out before its push waits for that.
 func TestAnOutcomeMayComeEarly(t *testing.T) {
-	s := &Store{ends: map[uint64]end{}, closing: make(chan struct{})}
+	s := &inDoubt{ends: map[uint64]end{}, closing: make(chan struct{})}
 	told := s.expect(7, end{tenant: "a"})
-	s.tellEnds(map[uint64]frames.Answer{7: {Reply: []byte("x")}})
+	s.tell(map[uint64]frames.Answer{7: {Reply: []byte("x")}})
 	if len(told) != 1 {
 		t.Fatal("the outcome is lost")
 	}

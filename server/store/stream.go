@@ -3,14 +3,15 @@ package store
 import (
 	"context"
 	"errors"
+	"sort"
 	"sync"
 	"sync/atomic"
 	"time"
 
-	"gitpoold/answers"
 	"gitpoold/child"
 	"gitpoold/faultpoint"
 	"gitpoold/frames"
+	"gitpoold/idempotency"
 	"gitpoold/journal"
 )
 
@@ -41,11 +42,11 @@ type Stream struct {
 	fedBefore, grownBefore int64
 	bound                  atomic.Int64
 	// kept is what the stream was answered before its End, if that is to be kept.
-	kept *answers.Answer
+	kept *idempotency.Answer
 	// These are what the child took for the stream, if its form is Checkpoints, and its memory at the last answer.
 	took, grown, resident atomic.Int64
 
-	// These are set inside the gate `steps`, and read while it is shut: the child that has the stream, the number of its Open in the
+	// These are set by who is inside, and read by who uses the child alone: the child that has the stream, the number of its Open in the
 	// journal, and how often the journal had lost records before.
 	process *child.Process
 	number  uint64
@@ -53,44 +54,37 @@ type Stream struct {
 	isEnded bool
 }
 
-// openNumber gives the number of the stream's Open, if this child has the stream open. The gate `steps` is shut.
-func (st *Stream) openNumber(process *child.Process) (number uint64, isOpen bool) {
-	return st.number, st.process == process && st.number > 0 && !st.isEnded && st.isInJournal()
-}
+// isOfChild tells whether the child has the stream, and has not got its End.
+func (st *Stream) isOfChild(x exclusive) bool { return st.process == x.child.process && !st.isEnded }
 
 // isInJournal tells whether the journal may have all steps of the stream.
 func (st *Stream) isInJournal() bool { return st.losses == st.store.journal.Losses() }
 
 // Pending is a piece of a stream that is on its way.
 type Pending struct {
-	batch *Batch
+	batch *child.Batch
 	of    *Stream
 }
 
 // Wait gives what the piece printed, or Refused.
 func (p Pending) Wait(ctx context.Context) ([]byte, error) {
-	answers, err := p.answers(ctx)
+	answer, err := p.Answer(ctx)
 	if err != nil {
 		return nil, err
 	}
-	return replies(answers)
+	return replies([]frames.Answer{answer})
 }
 
 // Answer waits for the child's answer as it is.
-func (p Pending) Answer(ctx context.Context) (frames.Answer, error) {
-	answers, err := p.answers(ctx)
-	if err != nil {
-		return frames.Answer{}, err
-	}
-	return answers[0], nil
-}
-
-func (p Pending) answers(ctx context.Context) ([]frames.Answer, error) {
+func (p Pending) Answer(ctx context.Context) (answer frames.Answer, err error) {
 	answers, err := p.batch.Wait(ctx)
-	if err == nil && outOfMemory(answers) {
+	if err != nil {
+		return answer, err
+	}
+	if outOfMemory(answers) {
 		p.of.isStarved.Store(true)
 	}
-	return answers, err
+	return answers[0], nil
 }
 
 // replies joins the replies of answers, or gives the first refusal.
@@ -123,7 +117,7 @@ func (s *Store) Begin(ctx context.Context, tenant string, form Form) (*Stream, e
 	if err := s.streams.enter(ctx); err != nil {
 		return nil, Late(err)
 	}
-	if !s.register(st) {
+	if !s.streams.add(st) {
 		s.streams.leave()
 		return nil, &Refused{31}
 	}
@@ -138,24 +132,15 @@ func (s *Store) Begin(ctx context.Context, tenant string, form Form) (*Stream, e
 	return st, nil
 }
 
-func (s *Store) register(st *Stream) bool {
-	s.mutex.Lock()
-	defer s.mutex.Unlock()
-	if s.open[st.tenant] != nil {
-		return false
-	}
-	s.open[st.tenant] = st
-	return true
-}
-
 func (st *Stream) openIn(ctx context.Context) (Pending, error) {
 	st.mutex.Lock()
 	defer st.mutex.Unlock()
-	if err := st.store.enter(ctx); err != nil {
+	in, err := st.store.child.enter(ctx)
+	if err != nil {
 		return Pending{}, err
 	}
-	defer st.store.steps.leave()
-	st.process, st.losses = st.store.process, st.store.journal.Losses()
+	defer in.leave()
+	st.process, st.losses = in.process, st.store.journal.Losses()
 	record := frames.Step{Kind: frames.Open, Tenant: st.tenant, Body: []byte{byte(st.form)}}
 	number, err := st.store.journal.Append(record)
 	if err != nil {
@@ -171,16 +156,17 @@ func (st *Stream) openIn(ctx context.Context) (Pending, error) {
 func (st *Stream) Feed(ctx context.Context, body []byte) (Pending, error) {
 	st.mutex.Lock()
 	defer st.mutex.Unlock()
-	if err := st.enterWhole(ctx); err != nil {
+	in, err := st.enter(ctx, st.isThere)
+	if err != nil {
 		return Pending{}, err
 	}
-	defer st.store.steps.leave()
+	defer in.leave()
 	step := frames.Step{Kind: frames.Feed, Tenant: st.tenant, Body: body}
 	if _, err := st.store.journal.Append(step); err != nil {
 		return Pending{}, err
 	}
 	st.fed += int64(len(body))
-	st.store.taken.Add(1)
+	st.store.counters.steps.Add(1)
 	batch, err := st.process.Send(st.endless(ctx), child.Short, step)
 	return Pending{batch, st}, err
 }
@@ -209,52 +195,40 @@ func (st *Stream) Bounded(bytes int64) { st.bound.Store(bytes) }
 // Recount asks the child what tenants have at their last checkpoints, for Bytes, unless nothing of the tenant has changed. It waits for its turn as
 // long as the context lasts.
 func (s *Store) Recount(ctx context.Context, tenant string) error {
-	if s.isCounted(tenant) {
+	if it := s.usage.get(tenant); it.since == 0 && it.bound == 0 {
 		return nil
 	}
 	return s.RecountAll(ctx)
 }
 
-// enter goes in where the stream is open and its child is the one that there is.
-func (st *Stream) enter(ctx context.Context) error {
-	if err := st.store.enter(ctx); err != nil {
-		return err
-	}
-	err := st.isOpen()
+// enter goes in where the stream may go on, as `may` says of the child that there is.
+func (st *Stream) enter(ctx context.Context, may func(*child.Process) error) (inside, error) {
+	in, err := st.store.child.enter(ctx)
 	if err != nil {
-		st.store.steps.leave()
+		return in, err
 	}
-	return err
+	if err = may(in.process); err != nil {
+		in.leave()
+	}
+	return in, err
 }
 
-// isOpen is an error where the stream is closed, or its child is not the one that there is.
-func (st *Stream) isOpen() error {
+// isOpen is an error where the stream is closed, or its child is not this one.
+func (st *Stream) isOpen(process *child.Process) error {
 	switch {
 	case st.isClosed:
 		return &Refused{30}
-	case st.process != st.store.process:
+	case st.process != process:
 		return child.ErrGone
 	}
 	return nil
 }
 
 // isThere does the same, and is an error too where the journal lacks what the stream was fed.
-func (st *Stream) isThere() error {
-	err := st.isOpen()
+func (st *Stream) isThere(process *child.Process) error {
+	err := st.isOpen(process)
 	if err == nil && !st.isInJournal() {
 		err = journal.ErrBroken
-	}
-	return err
-}
-
-// enterWhole goes in where the journal has what the stream was fed, too.
-func (st *Stream) enterWhole(ctx context.Context) error {
-	if err := st.store.enter(ctx); err != nil {
-		return err
-	}
-	err := st.isThere()
-	if err != nil {
-		st.store.steps.leave()
 	}
 	return err
 }
@@ -270,21 +244,24 @@ func (st *Stream) Commit(ctx context.Context, last []byte) ([]byte, error) {
 		return nil, err
 	}
 	answers, err := sent.batch.Wait(context.Background())
-	isTold := err == nil && st.store.forget(sent.number)
+	isTold := err == nil && st.store.inDoubt.forget(sent.number)
 	st.keep(answers, isTold)
 	switch {
 	case !isTold:
 		// The journal has the End, so the next child carries it out.
-		answers, err = st.store.outcome(sent.outcome)
+		answers, err = st.store.inDoubt.outcome(sent.outcome)
 	case outOfMemory(answers):
 		err = st.withdraw()
 	}
+	return st.tell(answers, err)
+}
+
+// tell closes the stream, and gives what its End printed.
+func (st *Stream) tell(answers []frames.Answer, err error) (reply []byte, _ error) {
 	faultpoint.Here("before a push is told")
-	if err != nil {
-		st.close(false)
-		return nil, err
+	if err == nil {
+		reply, err = replies(answers)
 	}
-	reply, err := replies(answers)
 	st.close(err == nil)
 	return reply, err
 }
@@ -292,26 +269,14 @@ func (st *Stream) Commit(ctx context.Context, last []byte) ([]byte, error) {
 // withdraw takes back an End for which the child had no memory, and which nobody was told of. What the child has then is not what
 // the journal says, so it is replaced. It is ErrUnknown where the journal keeps the End.
 func (st *Stream) withdraw() error {
-	if err := st.enter(context.Background()); err != nil {
+	in, err := st.enter(context.Background(), st.isOpen)
+	if err != nil {
 		return ErrUnknown
 	}
-	defer st.store.steps.leave()
-	err := st.store.takeBack(st.tenant)
+	defer in.leave()
+	err = st.store.journal.takeBack(st.number, end{tenant: st.tenant})
 	st.process.Kill()
 	return err
-}
-
-// takeBack notes that the last End of a tenant does not count. It is ErrUnknown where the journal keeps the End.
-func (s *Store) takeBack(tenant string) error {
-	number, err := s.journal.Append(frames.Step{Kind: journal.GivenUp, Tenant: tenant})
-	if err == nil {
-		err = s.journal.Sync(number)
-	}
-	if err != nil {
-		s.config.Tell("the journal keeps the end of a push that is refused for want of memory: %v", err)
-		return ErrUnknown
-	}
-	return nil
 }
 
 func outOfMemory(answers []frames.Answer) bool {
@@ -327,34 +292,29 @@ func outOfMemory(answers []frames.Answer) bool {
 // next one.
 type sentEnd struct {
 	number  uint64
-	batch   *Batch
+	batch   *child.Batch
 	outcome <-chan frames.Answer
 }
 
 func (st *Stream) sendEnd(ctx context.Context, last []byte) (sentEnd, error) {
-	if err := st.enterWhole(ctx); err != nil {
+	in, err := st.enter(ctx, st.isThere)
+	if err != nil {
 		return sentEnd{}, err
 	}
+	defer in.leave()
 	s := st.store
-	defer s.steps.leave()
 	steps := []frames.Step{{Kind: frames.End, Tenant: st.tenant}}
 	if len(last) > 0 {
 		steps = []frames.Step{{Kind: frames.Feed, Tenant: st.tenant, Body: last}, steps[0]}
 		st.fed += int64(len(last))
 	}
-	number, err := s.journal.Append(st.noted(steps)...)
-	if err == nil {
-		err = s.journal.Sync(number)
-	}
+	number, err := s.journal.add(st.noted(steps)...)
 	if err != nil {
 		return sentEnd{}, err
 	}
-	st.isEnded = true
-	if st.kept != nil {
-		s.keeping.Add(1)
-	}
-	outcome := s.expect(number, end{tenant: st.tenant})
-	s.taken.Add(int64(len(steps)))
+	st.setEnded()
+	outcome := s.inDoubt.expect(number, end{tenant: st.tenant})
+	s.counters.steps.Add(int64(len(steps)))
 	faultpoint.Here("before the end is sent")
 	batch, err := st.process.Send(st.endless(ctx), child.Short, steps...)
 	if err != nil {
@@ -371,24 +331,17 @@ func (st *Stream) GiveUp() {
 		return
 	}
 	ctx := context.Background()
-	if err := st.enter(ctx); err == nil {
+	if in, err := st.enter(ctx, st.isOpen); err == nil {
 		// Where the journal lacks its Open, this would take back the End of the tenant's stream before.
 		if st.number > 0 && st.isInJournal() {
-			st.store.noteGivenUp(st.tenant)
+			st.store.journal.noteGivenUp(st.tenant)
 		}
 		st.isEnded = true
 		giveUp(ctx, st.process, st.tenant)
-		st.store.steps.leave()
+		in.leave()
 	}
 	st.store.count(func(c *Counts) { c.GivenUp++ })
 	st.close(false)
-}
-
-// noteGivenUp lets the journal keep the steps of a tenant's stream no longer than until the next save.
-func (s *Store) noteGivenUp(tenant string) {
-	if _, err := s.journal.Append(frames.Step{Kind: journal.GivenUp, Tenant: tenant}); err != nil {
-		s.config.Tell("a stream that was given up is not noted in the journal: %v", err)
-	}
 }
 
 // tellingGrowth is how much more than its bytes a stream takes of the child's memory where that says something.
@@ -411,75 +364,20 @@ func (st *Stream) brought() int64 {
 func (st *Stream) close(well bool) {
 	s := st.store
 	st.isClosed = true
-	s.mutex.Lock()
-	delete(s.open, st.tenant)
-	if well {
-		s.counts.Pushes++
-	} else {
-		s.counts.Refused++
-	}
 	if well || st.form == Checkpoints {
-		s.since[st.tenant] += st.brought()
-		s.total += st.brought()
-		s.bounds[st.tenant] = sum(s.bounds[st.tenant], st.bound.Load())
+		s.usage.add(st.tenant, st.brought(), st.bound.Load())
 	}
-	s.mutex.Unlock()
-	s.streams.leave()
+	s.count(func(c *Counts) {
+		if well {
+			c.Pushes++
+		} else {
+			c.Refused++
+		}
+	})
+	s.streams.remove(st)
 	if st.form == Checkpoints && st.isStarved.Load() {
 		// Another child that carries the journal out may have no memory for the piece either, so the journal is not to keep it for long.
 		s.hasStarved.Store(true)
-	}
-}
-
-// end is an End of a tenant, or a request of the operator, that is in the journal, and of which nobody was told.
-type end struct {
-	tenant    string
-	isRequest bool
-	answer    chan frames.Answer
-}
-
-// expect gives the channel to which the answer to what is in the journal under a number comes, if a later child carries that out. It may
-// come before anybody waits for it.
-func (s *Store) expect(number uint64, it end) <-chan frames.Answer {
-	s.mutex.Lock()
-	defer s.mutex.Unlock()
-	it.answer = make(chan frames.Answer, 1)
-	s.ends[number] = it
-	return it.answer
-}
-
-// forget lets nobody tell what came of what is in the journal under a number, since that is about to be told. It is false where another child has been
-// asked for it, or it is being taken back: then that is what is told.
-func (s *Store) forget(number uint64) bool {
-	s.mutex.Lock()
-	defer s.mutex.Unlock()
-	_, has := s.ends[number]
-	delete(s.ends, number)
-	return has
-}
-
-// outcome waits until another child has carried it out, and gives its answer. It is ErrUnknown where it was perhaps taken back.
-func (s *Store) outcome(from <-chan frames.Answer) ([]frames.Answer, error) {
-	select {
-	case answer, isKnown := <-from:
-		if !isKnown {
-			return nil, ErrUnknown
-		}
-		return []frames.Answer{answer}, nil
-	case <-s.closing:
-		return nil, ErrUnknown
-	}
-}
-
-// tellEnds gives answers to those who wait for them.
-func (s *Store) tellEnds(answers map[uint64]frames.Answer) {
-	s.mutex.Lock()
-	defer s.mutex.Unlock()
-	for number, it := range s.ends {
-		if answer, found := answers[number]; found && len(it.answer) == 0 {
-			it.answer <- answer
-			delete(s.ends, number)
-		}
 	}
 }
 
@@ -494,4 +392,54 @@ func sendAndWait(ctx context.Context, p *child.Process, step frames.Step) ([]fra
 		return nil, err
 	}
 	return batch.Wait(ctx)
+}
+
+// openStreams are the streams that are open. Each is inside the gate. While that is shut, no stream is open and none begins.
+type openStreams struct {
+	*gate
+	merging sync.Mutex
+
+	mutex sync.Mutex
+	of    map[string]*Stream
+}
+
+// add takes a stream, unless its tenant has one.
+func (o *openStreams) add(st *Stream) bool {
+	o.mutex.Lock()
+	defer o.mutex.Unlock()
+	if o.of[st.tenant] != nil {
+		return false
+	}
+	o.of[st.tenant] = st
+	return true
+}
+
+// remove lets the tenant of a stream have another one.
+func (o *openStreams) remove(st *Stream) {
+	o.mutex.Lock()
+	delete(o.of, st.tenant)
+	o.mutex.Unlock()
+	o.leave()
+}
+
+// those gives the streams that are as `are` says.
+func (o *openStreams) those(are func(*Stream) bool) (found []*Stream) {
+	o.mutex.Lock()
+	defer o.mutex.Unlock()
+	for _, it := range o.of {
+		if are(it) {
+			found = append(found, it)
+		}
+	}
+	return found
+}
+
+// openNumbers gives the numbers of the Opens of the streams that the child has, in rising order.
+func (x exclusive) openNumbers() (numbers []uint64) {
+	isOpen := func(st *Stream) bool { return st.isOfChild(x) && st.number > 0 && st.isInJournal() }
+	for _, st := range x.streams.those(isOpen) {
+		numbers = append(numbers, st.number)
+	}
+	sort.Slice(numbers, func(i, k int) bool { return numbers[i] < numbers[k] })
+	return numbers
 }

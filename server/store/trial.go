@@ -42,125 +42,112 @@ func (st *Stream) CommitWithin(ctx context.Context, judge Judge) ([]byte, error)
 	if err != nil {
 		return nil, err
 	}
-	faultpoint.Here("before a push is told")
-	reply, err := replies([]frames.Answer{answer})
-	st.close(err == nil)
-	return reply, err
+	return st.tell([]frames.Answer{answer}, nil)
 }
 
 // try carries out a step alone, and lets the journal have it once `judge` has let it pass.
-func (st *Stream) try(ctx context.Context, step frames.Step, judge Judge) (frames.Answer, error) {
-	s := st.store
-	if s.isClosing() {
-		return frames.Answer{}, ErrClosed
+func (st *Stream) try(ctx context.Context, step frames.Step, judge Judge) (answer frames.Answer, err error) {
+	if st.store.child.isClosing() {
+		return answer, ErrClosed
 	}
-	if err := s.beginMaintenance(ctx); err != nil {
-		return frames.Answer{}, err
-	}
-	defer s.endMaintenance()
-	if err := s.steps.shut(ctx); err != nil {
-		return frames.Answer{}, err
-	}
-	defer s.steps.open()
-	if err := st.isThere(); err != nil {
-		return frames.Answer{}, err
-	}
-	aside, err := s.putAside(st.tenant)
+	m, err := st.store.beginMaintenance(ctx)
 	if err != nil {
-		return frames.Answer{}, fmt.Errorf("what the repository would have cannot be measured: %w", err)
+		return answer, err
+	}
+	defer m.done()
+	x, err := m.shut(ctx)
+	if err != nil {
+		return answer, err
+	}
+	defer x.open()
+	if err := st.isThere(x.child.process); err != nil {
+		return answer, err
+	}
+	t := &trial{exclusive: x, stream: st}
+	if err := t.putAside(); err != nil {
+		return answer, fmt.Errorf("what the repository would have cannot be measured: %w", err)
 	}
 	faultpoint.Here("before a step is carried out alone")
-	answer, err := st.carryOut(ctx, step, aside, judge)
-	if err == nil {
+	if answer, err = t.carryOut(ctx, step, judge); err == nil {
 		faultpoint.Here("after a step is carried out alone")
-		err = st.note(step, answer)
+		err = t.note(step, answer)
 	}
 	return answer, err
 }
 
-// putAside copies a tenant, and gives the name of the copy. A name that a tenant has is passed over.
-func (s *Store) putAside(tenant string) (aside string, err error) {
-	const isStreaming, isNotEmpty = 31, 33
-	for at := 0; ; at++ {
-		aside = fmt.Sprint("aside-", at)
-		_, err = s.requestOf(s.process, frames.Step{Kind: frames.Copy, Tenant: tenant, Body: []byte(aside)})
-		var refused *Refused
-		if !errors.As(err, &refused) {
-			return aside, err
-		}
-		if refused.Number != isStreaming && refused.Number != isNotEmpty {
-			_ = s.drop(aside)
-			return aside, err
-		}
-	}
+// trial is a stream of which a step is tried, and the name of the copy of its tenant that stands aside.
+type trial struct {
+	exclusive
+	stream *Stream
+	aside  string
 }
 
-// drop removes a copy that stood aside. Where that fails, the child has what the journal has not, so it is replaced.
-func (s *Store) drop(aside string) error {
-	_, err := s.requestOf(s.process, frames.Step{Kind: frames.Remove, Tenant: aside})
+// ask asks the child one thing.
+func (t *trial) ask(step frames.Step) ([]byte, error) { return request(t.child.process, step) }
+
+// orReplaced replaces the child where there is an error: it has what the journal has not.
+func (t *trial) orReplaced(err error) error {
 	if err != nil {
-		s.process.Kill()
+		t.child.process.Kill()
 	}
 	return err
 }
 
+// putAside copies the tenant. A name that a tenant has is passed over.
+func (t *trial) putAside() error {
+	const isStreaming, isNotEmpty = 31, 33
+	for at := 0; ; at++ {
+		t.aside = fmt.Sprint("aside-", at)
+		_, err := t.ask(frames.Step{Kind: frames.Copy, Tenant: t.stream.tenant, Body: []byte(t.aside)})
+		var refused *Refused
+		if !errors.As(err, &refused) {
+			return err
+		}
+		if refused.Number != isStreaming && refused.Number != isNotEmpty {
+			_ = t.drop()
+			return err
+		}
+	}
+}
+
+// drop removes the copy.
+func (t *trial) drop() error {
+	_, err := t.ask(frames.Step{Kind: frames.Remove, Tenant: t.aside})
+	return t.orReplaced(err)
+}
+
 // carryOut lets the child carry a step out and `judge` what that leaves, and does away with the copy.
-func (st *Stream) carryOut(ctx context.Context, step frames.Step, aside string, judge Judge) (frames.Answer, error) {
+func (t *trial) carryOut(ctx context.Context, step frames.Step, judge Judge) (answer frames.Answer, err error) {
+	st := t.stream
 	answers, err := sendAndWait(st.endless(ctx), st.process, step)
 	if err != nil {
-		return frames.Answer{}, err
+		return answer, err
 	}
-	answer := answers[0]
-	if answer.Status == frames.Ok {
-		var size Size
-		var refs refSize
-		if size, refs, err = st.store.measure(st.process, st.tenant); err != nil {
-			st.process.Kill()
-			return answer, err
+	if answer = answers[0]; answer.Status == frames.Ok {
+		size, refs, err := measure(st.process, st.tenant)
+		if err != nil {
+			return answer, t.orReplaced(err)
 		}
-		if err = judge(size.Bytes, st.ask); err != nil {
+		if err = judge(size.Bytes, t.ask); err != nil {
 			faultpoint.Here("before a step is undone")
-			st.undo(aside)
+			t.undo()
 			faultpoint.Here("after a step is undone")
 			return answer, err
 		}
-		st.measured(size, refs)
+		t.usage.measured(st.tenant, size, refs)
+		st.isMeasured()
 	}
-	return answer, st.store.drop(aside)
+	return answer, t.drop()
 }
 
-// ask asks the child of the stream while the gate `steps` is shut.
-func (st *Stream) ask(step frames.Step) ([]byte, error) { return st.store.requestOf(st.process, step) }
-
-// measure asks what a tenant has. The gate `steps` is shut.
-func (s *Store) measure(process *child.Process, tenant string) (Size, refSize, error) {
-	reply, err := s.requestOf(process, frames.Step{Kind: frames.Sizes})
-	if err != nil {
-		return Size{}, refSize{}, err
-	}
-	sizes, err := parseSizes(reply)
+// measure asks a child that nobody else uses what a tenant has.
+func measure(process *child.Process, tenant string) (Size, refSize, error) {
+	sizes, err := askSizes(process)
 	known := map[string]refSize{}
 	if err == nil && sizes[tenant].Refs > 0 {
 		err = askRefsOf(process, []string{tenant}, sizes, known)
 	}
-	it, refs := sizes[tenant], known[tenant]
-	return Size{it.Objects, it.Bytes + refs.bytes, it.Own + refs.bytes, it.Refs}, refs, err
-}
-
-// measured takes what the tenant has. Its own bytes are those that came beside the ones before, which the copy has too.
-func (st *Stream) measured(size Size, refs refSize) {
-	s := st.store
-	s.mutex.Lock()
-	defer s.mutex.Unlock()
-	before := s.sizes[st.tenant]
-	if size.Own += before.Own; size.Own > size.Bytes {
-		size.Own = size.Bytes
-	}
-	s.total += size.Bytes - before.Bytes - s.since[st.tenant]
-	s.sizes[st.tenant], s.refs[st.tenant] = size, refs
-	delete(s.since, st.tenant)
-	delete(s.bounds, st.tenant)
-	st.isMeasured()
+	return sizes[tenant].with(known[tenant]), known[tenant], err
 }
 
 // isMeasured says that the store knows what the stream has brought so far.
@@ -170,70 +157,52 @@ func (st *Stream) isMeasured() {
 }
 
 // undo puts the copy in the place of the tenant, or replaces the child, which then comes to the same but for what no ref reaches.
-func (st *Stream) undo(aside string) {
-	if err := st.putBack(aside); err != nil {
-		st.store.config.Tell("the child is replaced, since a stream of it that a limit refuses cannot be undone: %v", err)
-		st.process.Kill()
+func (t *trial) undo() {
+	if err := t.putBack(); err != nil {
+		t.config.Tell("the child is replaced, since a stream of it that a limit refuses cannot be undone: %v", err)
+		t.child.process.Kill()
 		return
 	}
-	st.number = 0
-	st.isMeasured()
+	t.stream.number = 0
+	t.stream.isMeasured()
 }
 
 // putBack puts the copy in the place of the tenant. A copy has what the refs reach and no more, so the journal gets a Compact.
-func (st *Stream) putBack(aside string) error {
-	s, tenant := st.store, st.tenant
+func (t *trial) putBack() error {
+	tenant := t.stream.tenant
 	// Where the step was an End, there is no stream any more.
-	_, _ = s.requestOf(st.process, frames.Step{Kind: frames.Abandon, Tenant: tenant})
+	_, _ = t.ask(frames.Step{Kind: frames.Abandon, Tenant: tenant})
 	compact := frames.Step{Kind: frames.Compact, Tenant: tenant}
-	for _, step := range []frames.Step{{Kind: frames.Remove, Tenant: tenant}, {Kind: frames.Copy, Tenant: aside, Body: []byte(tenant)},
-		{Kind: frames.Remove, Tenant: aside}, compact} {
-		if _, err := s.requestOf(st.process, step); err != nil {
+	for _, step := range []frames.Step{{Kind: frames.Remove, Tenant: tenant}, {Kind: frames.Copy, Tenant: t.aside, Body: []byte(tenant)},
+		{Kind: frames.Remove, Tenant: t.aside}, compact} {
+		if _, err := t.ask(step); err != nil {
 			return err
 		}
 	}
-	number, err := s.journal.Append(frames.Step{Kind: journal.GivenUp, Tenant: tenant}, compact)
-	if err == nil {
-		err = s.journal.Sync(number)
-	}
-	if err != nil {
+	if _, err := t.journal.add(frames.Step{Kind: journal.GivenUp, Tenant: tenant}, compact); err != nil {
 		return err
 	}
-	return s.readSizes(st.process)
+	return t.usage.readFrom(t.child.process)
 }
 
-// note lets the journal have a step that the child has carried out. Where that fails, the child is replaced.
-func (st *Stream) note(step frames.Step, answer frames.Answer) error {
-	s := st.store
-	s.taken.Add(1)
+// note lets the journal have a step that the child has carried out.
+func (t *trial) note(step frames.Step, answer frames.Answer) error {
+	st := t.stream
+	t.counters.steps.Add(1)
 	if step.Kind == frames.Feed {
 		st.fed += int64(len(step.Body))
-		_, err := s.journal.Append(step)
-		return st.orReplaced(err)
+		_, err := t.journal.Append(step)
+		return t.orReplaced(err)
 	}
 	if outOfMemory([]frames.Answer{answer}) {
 		// Another child might have the memory.
-		st.process.Kill()
+		t.child.process.Kill()
 		return nil
 	}
-	number, err := s.journal.Append(st.noted([]frames.Step{step})...)
-	if err == nil {
-		err = s.journal.Sync(number)
+	if _, err := t.journal.add(st.noted([]frames.Step{step})...); err != nil {
+		return t.orReplaced(err)
 	}
-	if err != nil {
-		return st.orReplaced(err)
-	}
-	st.isEnded = true
-	if st.kept != nil {
-		s.keeping.Add(1)
-	}
+	st.setEnded()
 	st.keep([]frames.Answer{answer}, true)
 	return nil
-}
-
-func (st *Stream) orReplaced(err error) error {
-	if err != nil {
-		st.process.Kill()
-	}
-	return err
 }

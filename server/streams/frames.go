@@ -7,6 +7,7 @@ import (
 	"io"
 
 	"gitpoold/access"
+	"gitpoold/faults"
 	"gitpoold/frames"
 	"gitpoold/limits"
 	"gitpoold/tenants"
@@ -56,7 +57,7 @@ func (f *framed) take(ctx context.Context, step frames.Step) error {
 	answer, err := f.carryOut(ctx, step)
 	if err == nil && step.Kind != frames.End {
 		var taken func()
-		if taken, err = f.Site.Limits.Wait(f.User, len(answer.Reply)); err == nil {
+		if taken, err = f.Gateway.Limits.Wait(f.User, len(answer.Reply)); err == nil {
 			defer taken()
 		} else if f.stream != nil && step.Kind == frames.Feed {
 			f.kill(err)
@@ -98,7 +99,7 @@ func (f *framed) carryOut(ctx context.Context, step frames.Step) (frames.Answer,
 	case carry == nil:
 		return frames.Answer{}, frames.ErrWrong
 	case step.Tenant != f.Tenant.Name():
-		return frames.Answer{}, tenants.Fault{Number: 32}
+		return frames.Answer{}, faults.Fault(32)
 	}
 	return carry(ctx, step.Body)
 }
@@ -108,7 +109,7 @@ func (f *framed) mayStill(right access.Right) error {
 	if err := f.IsLetIn(); err != nil {
 		return err
 	}
-	_, err := f.Site.Open(f.User, f.Tenant.Name(), right)
+	_, err := f.Gateway.Open(f.User, f.Tenant.Name(), right)
 	return err
 }
 
@@ -121,7 +122,7 @@ func (f *framed) ask(ctx context.Context, query []byte) (frames.Answer, error) {
 
 func (f *framed) open(ctx context.Context, _ []byte) (frames.Answer, error) {
 	if f.stream != nil || f.dead != nil {
-		return frames.Answer{}, tenants.Fault{Number: 31}
+		return frames.Answer{}, faults.Fault(31)
 	}
 	if err := f.mayStill(access.Write); err != nil {
 		return frames.Answer{}, err
@@ -137,7 +138,7 @@ func (f *framed) feed(ctx context.Context, piece []byte) (frames.Answer, error) 
 	}
 	var all []byte
 	answer, err := f.stream.feed(ctx, piece, func(printed []byte) error {
-		if all = append(all, printed...); int64(len(all)) > f.Site.Limits.Get().AnswerBytes {
+		if all = append(all, printed...); int64(len(all)) > f.Gateway.Limits.Get().AnswerBytes {
 			return limits.ErrAnswer
 		}
 		return nil
@@ -174,7 +175,7 @@ func (f *framed) withoutStream() error {
 	if f.dead != nil {
 		return f.dead
 	}
-	return tenants.Fault{Number: 30}
+	return faults.Fault(30)
 }
 
 // kill gives the stream up because of a limit.

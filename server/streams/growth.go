@@ -40,12 +40,5 @@ func (g *growth) isBeyond(things int64) bool {
 	for _, jump := range g.jumped {
 		taken -= jump
 	}
-	return taken > g.room+least(mostBeside, besideThing*things)+workBytes
-}
-
-func least(a, b int64) int64 {
-	if a < b {
-		return a
-	}
-	return b
+	return taken > g.room+min(mostBeside, besideThing*things)+workBytes
 }

@@ -4,7 +4,7 @@ import (
 	"context"
 	"io"
 
-	"gitpoold/answers"
+	"gitpoold/idempotency"
 	"gitpoold/limits"
 )
 
@@ -80,11 +80,11 @@ func (s *stream) takeAll(ctx context.Context, in <-chan arrival[[]byte]) error {
 const errDropped = limits.Passed("the stream with this token has ended and lasts, and what it printed was too long to be kept")
 
 // tellAgain writes what a stream with the same token was answered, and reads the stream to its end.
-func (u Use) tellAgain(ctx context.Context, in <-chan arrival[[]byte], kept answers.Answer) error {
+func (u Use) tellAgain(ctx context.Context, in <-chan arrival[[]byte], kept idempotency.Answer) error {
 	if err := u.write(kept.Reply, u.within(nil)); err != nil {
 		return err
 	}
-	for taken, most := int64(0), u.Site.Limits.Get().StreamBytes; ; {
+	for taken, most := int64(0), u.Gateway.Limits.Get().StreamBytes; ; {
 		piece, err := next(ctx, u, in, nil)
 		if err == io.EOF {
 			break

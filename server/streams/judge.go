@@ -6,6 +6,7 @@ import (
 
 	"gitpoold/hooks"
 	"gitpoold/limits"
+	"gitpoold/plumbing"
 	"gitpoold/protect"
 	"gitpoold/tenants"
 )
@@ -17,7 +18,7 @@ const errHooks = limits.Passed("this repository has a hook that judges each push
 
 // mayPassHooks refuses a stream of a tenant that has hooks which judge pushes.
 func (u Use) mayPassHooks() error {
-	if u.Site.Hooks != nil && u.Site.Hooks.Judges(u.Tenant.Name()) {
+	if u.Gateway.Hooks != nil && u.Gateway.Hooks.Judges(u.Tenant.Name()) {
 		return errHooks
 	}
 	return nil
@@ -28,7 +29,7 @@ func (s *stream) judge(ctx context.Context) (func(tenants.Trial) error, error) {
 	if err := s.mayPassHooks(); err != nil {
 		return nil, err
 	}
-	if len(s.Site.Protected.Of(s.Tenant.Name())) == 0 {
+	if len(s.Gateway.Protected.Of(s.Tenant.Name())) == 0 {
 		return nil, nil
 	}
 	before, _, err := s.Tenant.Refs(ctx)
@@ -48,11 +49,11 @@ func (s *stream) judge(ctx context.Context) (func(tenants.Trial) error, error) {
 
 // judgeChange refuses a change of one ref that the operator does not want.
 func (s *stream) judgeChange(t tenants.Trial, it hooks.Change) error {
-	before, _ := tenants.ParseName(it.Old)
-	after, _ := tenants.ParseName(it.New)
-	why, err := s.Site.Protects(s.User, s.Tenant.Name(), protect.Change{Ref: it.Ref, IsMade: before.IsZero(), IsGone: after.IsZero(),
+	before, _ := plumbing.ParseName(it.Old)
+	after, _ := plumbing.ParseName(it.New)
+	why, err := s.Gateway.Protects(s.User, s.Tenant.Name(), protect.Change{Ref: it.Ref, IsMade: before.IsZero(), IsGone: after.IsZero(),
 		IsForced: func() (bool, error) {
-			reaches, err := t.Reaches([]tenants.Name{after}, before)
+			reaches, err := t.Reaches([]plumbing.Name{after}, before)
 			return !reaches, err
 		}})
 	if why != "" && err == nil {

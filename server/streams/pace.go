@@ -28,24 +28,10 @@ func (p *pace) adapt(part fastimport.Part, took time.Duration) {
 	switch {
 	case took > stepTime:
 		share := float64(stepTime) / float64(took)
-		p.next.Heavy = atLeast(1, int(share*float64(part.Heavy)))
-		p.next.Bytes = atLeast(shortest, int(share*float64(part.Bytes)))
+		p.next.Heavy = max(1, int(share*float64(part.Heavy)))
+		p.next.Bytes = max(shortest, int(share*float64(part.Bytes)))
 	case took < stepTime/2:
-		p.next.Heavy = atMost(partHeavy, p.next.Heavy+1)
-		p.next.Bytes = atMost(partBytes, 2*p.next.Bytes)
+		p.next.Heavy = min(partHeavy, p.next.Heavy+1)
+		p.next.Bytes = min(partBytes, 2*p.next.Bytes)
 	}
-}
-
-func atLeast(least, value int) int {
-	if value < least {
-		return least
-	}
-	return value
-}
-
-func atMost(most, value int) int {
-	if value > most {
-		return most
-	}
-	return value
 }

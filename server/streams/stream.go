@@ -6,12 +6,13 @@ import (
 	"time"
 
 	"gitpoold/access"
-	"gitpoold/answers"
 	"gitpoold/child"
 	"gitpoold/fastimport"
 	"gitpoold/frames"
 	"gitpoold/hooks"
+	"gitpoold/idempotency"
 	"gitpoold/limits"
+	"gitpoold/plumbing"
 	"gitpoold/tenants"
 )
 
@@ -31,7 +32,7 @@ type stream struct {
 	pace      pace
 	growth    growth
 	counted   child.Cost
-	answer    answers.Answer
+	answer    idempotency.Answer
 	// blocked has the refusal where the user or the tenant is blocked meanwhile.
 	blocked chan error
 	over    chan struct{}
@@ -41,14 +42,14 @@ type stream struct {
 }
 
 // open opens a stream, unless one with this token has ended well: then it gives what that one was answered, whatever the limits say, and no stream.
-func (u Use) open(ctx context.Context, token string) (*stream, *answers.Answer, error) {
+func (u Use) open(ctx context.Context, token string) (*stream, *idempotency.Answer, error) {
 	if kept := u.Tenant.Kept(token); kept != nil {
 		return nil, kept, nil
 	}
 	if err := u.mayOpen(ctx); err != nil {
 		return nil, nil, err
 	}
-	leave, err := u.Site.Limits.EnterStream(u.User, u.Tenant.Name())
+	leave, err := u.Gateway.Limits.EnterStream(u.User, u.Tenant.Name())
 	if err != nil {
 		return nil, nil, err
 	}
@@ -66,11 +67,11 @@ func (u Use) open(ctx context.Context, token string) (*stream, *answers.Answer, 
 		inner.GiveUp()
 		return nil, nil, err
 	}
-	values := u.Site.Limits.Get()
+	values := u.Gateway.Limits.Get()
 	s := &stream{Use: u, inner: inner, until: time.Now().Add(values.StreamAge), most: values.StreamBytes,
 		reader: fastimport.New(values.Fsck, u.Tenant.Object), pace: newPace(), growth: growth{room: room},
-		answer: answers.New(token, nil), leave: leave, blocked: make(chan error), over: make(chan struct{})}
-	_, s.unwatch = u.Site.Watch(context.Background(), u.User, u.Tenant.Name(), access.Write, s.block)
+		answer: idempotency.New(token, nil), leave: leave, blocked: make(chan error), over: make(chan struct{})}
+	_, s.unwatch = u.Gateway.Watch(context.Background(), u.User, u.Tenant.Name(), access.Write, s.block)
 	if err := s.tellChanges(ctx); err != nil {
 		s.giveUp()
 		return nil, nil, err
@@ -225,7 +226,7 @@ func (s *stream) mayTake(more int64) error {
 	case s.taken > s.most || s.journaled > journalFactor*s.most:
 		return limits.ErrStreamBytes
 	}
-	if err := s.Site.Access.Blocked(s.User, s.Tenant.Name(), access.Write); err != nil {
+	if err := s.Gateway.Access.Blocked(s.User, s.Tenant.Name(), access.Write); err != nil {
 		return err
 	}
 	return s.mayGoOn()
@@ -289,10 +290,10 @@ func (s *stream) tellChanges(ctx context.Context) error {
 		defer stop()
 		after, _, err := s.Tenant.Refs(soon)
 		if err != nil {
-			s.Site.Log.Printf("which refs a stream of %s changed in %s is not known: %v", s.User, s.Tenant.Name(), err)
+			s.Gateway.Log.Printf("which refs a stream of %s changed in %s is not known: %v", s.User, s.Tenant.Name(), err)
 			return
 		}
-		s.Site.Changed(s.Address, hooks.Push{Tenant: s.Tenant.Name(), User: s.User, Changes: changes(before, after)})
+		s.Gateway.Changed(s.Address, hooks.Push{Tenant: s.Tenant.Name(), User: s.User, Changes: changes(before, after)})
 	})
 	return nil
 }
@@ -301,7 +302,7 @@ func (s *stream) tellChanges(ctx context.Context) error {
 func changes(before, after []tenants.Ref) (all []hooks.Change) {
 	for len(before) > 0 || len(after) > 0 {
 		var it hooks.Change
-		none := tenants.Name{}.String()
+		none := plumbing.Name{}.String()
 		switch {
 		case len(after) == 0 || len(before) > 0 && before[0].Name < after[0].Name:
 			it = hooks.Change{Ref: before[0].Name, Old: before[0].Target.String(), New: none}

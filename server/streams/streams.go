@@ -12,21 +12,22 @@ import (
 	"time"
 
 	"gitpoold/access"
-	"gitpoold/daily"
+	"gitpoold/dailyquota"
 	"gitpoold/fastimport"
+	"gitpoold/faults"
 	"gitpoold/frames"
+	"gitpoold/gateway"
 	"gitpoold/limits"
-	"gitpoold/site"
 	"gitpoold/store"
 	"gitpoold/tenants"
 )
 
 // Use is what a user does with one tenant.
 type Use struct {
-	Site          *site.Site
+	Gateway       *gateway.Gateway
 	User, Address string
 	Tenant        tenants.Tenant
-	Meter         *daily.Meter
+	Meter         *dailyquota.Meter
 	In            io.Reader
 	// Out takes answers. A Write fails where the client takes nothing for too long.
 	Out io.Writer
@@ -52,10 +53,10 @@ func NumberOf(err error) int {
 	var refused *fastimport.Refused
 	switch {
 	case errors.As(err, &refused), errors.As(err, &passed), errors.As(err, &blocked), errors.Is(err, tenants.ErrFull),
-		errors.Is(err, limits.ErrUserBusy), errors.Is(err, daily.ErrBytes), errors.Is(err, daily.ErrChild), errors.Is(err, site.ErrReadOnly),
-		errors.As(err, new(site.Mirrored)):
+		errors.Is(err, limits.ErrUserBusy), errors.Is(err, dailyquota.ErrBytes), errors.Is(err, dailyquota.ErrChild), errors.Is(err, gateway.ErrReadOnly),
+		errors.As(err, new(gateway.Mirrored)):
 		return 25
-	case errors.Is(err, site.ErrNotFound):
+	case errors.Is(err, gateway.ErrNotFound):
 		return 32
 	case errors.Is(err, frames.ErrWrong):
 		return 50
@@ -106,7 +107,7 @@ func arrivals[T any](read func() (T, error), stop <-chan struct{}) <-chan arriva
 // next waits for what comes next: ErrSilent where that takes too long; of a stream that is open, ErrStreamAge where it gets too old meanwhile, and
 // *access.Blocked; and store.ErrClosed where the server stops and no stream is open.
 func next[T any](ctx context.Context, u Use, from <-chan arrival[T], open *stream) (value T, err error) {
-	silent := time.NewTimer(u.Site.Limits.Get().FrameIdle)
+	silent := time.NewTimer(u.Gateway.Limits.Get().FrameIdle)
 	defer silent.Stop()
 	stopping := u.Stopping
 	var old <-chan time.Time
@@ -135,7 +136,7 @@ func next[T any](ctx context.Context, u Use, from <-chan arrival[T], open *strea
 
 // write lets the client take bytes within a time. They count among the answers that wait.
 func (u Use) write(bytes []byte, within time.Duration) error {
-	taken, err := u.Site.Limits.Wait(u.User, len(bytes))
+	taken, err := u.Gateway.Limits.Wait(u.User, len(bytes))
 	if err != nil {
 		return err
 	}
@@ -155,7 +156,7 @@ func (u Use) writeInAnyCase(bytes []byte, within time.Duration) error {
 
 // within is how long the client has to take an answer.
 func (u Use) within(open *stream) time.Duration {
-	values := u.Site.Limits.Get()
+	values := u.Gateway.Limits.Get()
 	if open == nil {
 		return values.Request
 	}
@@ -168,7 +169,7 @@ func (u Use) mayGoOn() error {
 	if err := u.Meter.Err(); err != nil {
 		return err
 	}
-	return u.Site.Limits.MayWait(u.User)
+	return u.Gateway.Limits.MayWait(u.User)
 }
 
 // question asks one question.
@@ -176,7 +177,7 @@ func (u Use) question(ctx context.Context, query []byte) (frames.Answer, error) 
 	if err := u.mayGoOn(); err != nil {
 		return frames.Answer{}, err
 	}
-	wait, err := u.Site.Pool.Pass(ctx, []frames.Step{{Kind: frames.Ask, Tenant: u.Tenant.Name(), Body: query}})
+	wait, err := u.Gateway.Pool.Pass(ctx, []frames.Step{{Kind: frames.Ask, Tenant: u.Tenant.Name(), Body: query}})
 	if err != nil {
 		return frames.Answer{}, err
 	}
@@ -203,9 +204,9 @@ func (u Use) Ask(ctx context.Context, query string) error {
 func faultOf(answer frames.Answer) error {
 	switch answer.Status {
 	case frames.Fault:
-		return tenants.Fault{Number: int(answer.Value)}
+		return faults.Fault(answer.Value)
 	case frames.Memory:
-		return tenants.Fault{Number: 90}
+		return faults.Fault(90)
 	}
 	return nil
 }

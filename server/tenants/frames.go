@@ -4,9 +4,10 @@ import (
 	"context"
 	"errors"
 
-	"gitpoold/answers"
 	"gitpoold/child"
+	"gitpoold/faults"
 	"gitpoold/frames"
+	"gitpoold/idempotency"
 	"gitpoold/journal"
 	"gitpoold/store"
 )
@@ -24,11 +25,11 @@ type FrameStream struct {
 func (t Tenant) OpenFrames(ctx context.Context) (*FrameStream, error) {
 	unlock, err := t.pool.locks.take(ctx, t.name)
 	if err != nil {
-		return nil, Fault{31}
+		return nil, faults.Fault(31)
 	}
 	if _, err := t.RoomCounted(ctx); err != nil {
 		unlock()
-		return nil, Fault{25}
+		return nil, faults.Fault(25)
 	}
 	share, err := t.Enter()
 	if err != nil {
@@ -46,7 +47,7 @@ func (t Tenant) OpenFrames(ctx context.Context) (*FrameStream, error) {
 
 // OpenOnce opens a stream as OpenFrames does, unless one with this token has ended well before. Then it gives what that one was answered, and
 // no stream. Without a token it opens one in any case.
-func (t Tenant) OpenOnce(ctx context.Context, token string) (*FrameStream, *answers.Answer, error) {
+func (t Tenant) OpenOnce(ctx context.Context, token string) (*FrameStream, *idempotency.Answer, error) {
 	stream, err := t.OpenFrames(ctx)
 	// One that had the tenant while this one waited may have had the same token.
 	kept := t.Kept(token)
@@ -60,7 +61,7 @@ func (t Tenant) OpenOnce(ctx context.Context, token string) (*FrameStream, *answ
 }
 
 // Kept gives what the stream with a token was answered, if one has ended well and that is kept.
-func (t Tenant) Kept(token string) *answers.Answer {
+func (t Tenant) Kept(token string) *idempotency.Answer {
 	if kept, found := t.pool.store.Kept(t.name, token); found {
 		return &kept
 	}
@@ -74,7 +75,7 @@ func (s *FrameStream) AtEnd(do func()) {
 }
 
 // Keep lets what the stream is answered be kept where it ends well: `before` is what it was answered so far, and its token.
-func (s *FrameStream) Keep(before answers.Answer) { s.inner.Keep(before) }
+func (s *FrameStream) Keep(before idempotency.Answer) { s.inner.Keep(before) }
 
 // Feed feeds a piece, and gives the call that waits for the answer.
 func (s *FrameStream) Feed(ctx context.Context, body []byte) (func(context.Context) (frames.Answer, error), error) {
@@ -148,14 +149,14 @@ func (p *Pool) Pass(ctx context.Context, questions []frames.Step) (func(context.
 // ErrorNumber gives the number of the fault by which an error is told to a client that speaks frames, 0 where there is none: the
 // connection ends then, as that of a `serve` that ended.
 func ErrorNumber(err error) int {
-	var fault Fault
+	var fault faults.Fault
 	var refused *store.Refused
 	var follows *store.Follows
 	switch {
 	case errors.As(err, &follows):
 		return 68
 	case errors.As(err, &fault):
-		return fault.Number
+		return int(fault)
 	case errors.As(err, &refused):
 		return refused.Number
 	case errors.Is(err, journal.ErrTooLarge):

@@ -4,15 +4,14 @@ import (
 	"context"
 	"fmt"
 	"strings"
-)
 
-// Branches is what names of branches begin with.
-const Branches = "refs/heads/"
+	"gitpoold/plumbing"
+)
 
 // SetHead lets HEAD name another branch that the tenant has, by a stream, as a user can.
 func (t Tenant) SetHead(ctx context.Context, ref string) error {
 	return t.Push(ctx, func(refs Refs) error {
-		if !strings.HasPrefix(ref, Branches) || refs.Target(ref) == (Name{}) {
+		if !strings.HasPrefix(ref, plumbing.Branches) || refs.Target(ref) == (plumbing.Name{}) {
 			return fmt.Errorf("%s has no branch %s", t.name, ref)
 		}
 		return nil

@@ -5,25 +5,26 @@ import (
 
 	"gitpoold/child"
 	"gitpoold/frames"
+	"gitpoold/plumbing"
 )
 
 // Tags parts names into those under which the tenant has tags and all others. The child says so without the contents of objects, which may be large.
-func (t Tenant) Tags(ctx context.Context, names []Name) (tags, others []Name, err error) {
+func (t Tenant) Tags(ctx context.Context, names []plumbing.Name) (tags, others []plumbing.Name, err error) {
 	return t.parted(ctx, names, "^{tag}")
 }
 
 // Commits parts names in the same way into those of commits and all others. None may be a tag: the child would follow each chain of tags to its end.
-func (t Tenant) Commits(ctx context.Context, names []Name) (commits, others []Name, err error) {
+func (t Tenant) Commits(ctx context.Context, names []plumbing.Name) (commits, others []plumbing.Name, err error) {
 	return t.parted(ctx, names, "^{commit}")
 }
 
 // Has tells of each name whether the tenant has an object of it.
-func (t Tenant) Has(ctx context.Context, names []Name) ([]bool, error) {
+func (t Tenant) Has(ctx context.Context, names []plumbing.Name) ([]bool, error) {
 	return t.resolve(ctx, names, "")
 }
 
 // parted gives the names that the tenant has with a suffix of gitrevisions(7), and the others.
-func (t Tenant) parted(ctx context.Context, names []Name, suffix string) (found, others []Name, err error) {
+func (t Tenant) parted(ctx context.Context, names []plumbing.Name, suffix string) (found, others []plumbing.Name, err error) {
 	has, err := t.resolve(ctx, names, suffix)
 	if err != nil {
 		return nil, nil, err
@@ -39,11 +40,11 @@ func (t Tenant) parted(ctx context.Context, names []Name, suffix string) (found,
 }
 
 // resolve tells of each name whether it names something with a suffix of gitrevisions(7).
-func (t Tenant) resolve(ctx context.Context, names []Name, suffix string) ([]bool, error) {
+func (t Tenant) resolve(ctx context.Context, names []plumbing.Name, suffix string) ([]bool, error) {
 	const atOnce = 1024
 	has := make([]bool, 0, len(names))
 	for len(names) > 0 {
-		part := names[:first(names, atOnce)]
+		part := names[:min(len(names), atOnce)]
 		names = names[len(part):]
 		queries := make([]string, len(part))
 		for i, name := range part {

@@ -4,6 +4,8 @@ import (
 	"fmt"
 	"reflect"
 	"testing"
+
+	"gitpoold/plumbing"
 )
 
 // TestTagsAndCommits asks of a commit, its tree and file, a tag, the tag of that tag, a tag of a file, and a name that nothing has.
@@ -22,18 +24,18 @@ func TestTagsAndCommits(t *testing.T) {
 	if err != nil {
 		t.Fatal(err)
 	}
-	var names []Name
+	var names []plumbing.Name
 	for _, expression := range []string{"main", "main^{tree}", "main:f", "refs/tags/t0", "refs/tags/t1", "refs/tags/t2"} {
 		reply, err := it.Ask(background, "rev-parse "+expression)
-		name, ok := ParseName(string(reply[:digits]))
+		name, ok := plumbing.ParseName(string(reply[:digits]))
 		if err != nil || !ok {
 			t.Fatal(expression, err)
 		}
 		names = append(names, name)
 	}
-	names = append(names, Name{1})
+	names = append(names, plumbing.Name{1})
 	tags, others, err := it.Tags(background, names)
-	if err != nil || !reflect.DeepEqual(tags, names[3:6]) || !reflect.DeepEqual(others, append(append([]Name{}, names[:3]...), names[6])) {
+	if err != nil || !reflect.DeepEqual(tags, names[3:6]) || !reflect.DeepEqual(others, append(append([]plumbing.Name{}, names[:3]...), names[6])) {
 		t.Fatal(tags, others, err)
 	}
 	found, others, err := it.Commits(background, others)

@@ -6,51 +6,16 @@ import (
 	"encoding/binary"
 	"fmt"
 	"math/bits"
+	"slices"
 
 	"gitpoold/child"
+	"gitpoold/faults"
 	"gitpoold/frames"
+	"gitpoold/plumbing"
 )
 
-// Listing has objects with their kinds and sizes, as the child lists them: 29 bytes for each.
-type Listing []byte
-
-const (
-	listedBytes = 29
-	// heldBytes is what is counted for each: a list grows beyond its size, and what is left out of it stands beside it for a while.
-	heldBytes = 64
-)
-
-// Len is how many objects a listing has.
-func (l Listing) Len() int { return len(l) / listedBytes }
-
-// Name gives the name of an object.
-func (l Listing) Name(at int) (name Name) {
-	copy(name[:], l[at*listedBytes:])
-	return name
-}
-
-// Kind gives the kind of an object.
-func (l Listing) Kind(at int) Kind { return Kind(l[at*listedBytes+len(Name{})]) }
-
-// Size gives the bytes of an object's contents.
-func (l Listing) Size(at int) uint64 {
-	return binary.BigEndian.Uint64(l[at*listedBytes+len(Name{})+1:])
-}
-
-// With gives a listing with one more object.
-func (l Listing) With(name Name, kind Kind, size uint64) Listing {
-	return binary.BigEndian.AppendUint64(append(append(l, name[:]...), byte(kind)), size)
-}
-
-// Keep gives a listing of those objects for which `keep` gives true.
-func (l Listing) Keep(keep func(at int) bool) (kept Listing) {
-	for at := 0; at < l.Len(); at++ {
-		if keep(at) {
-			kept = append(kept, l[at*listedBytes:(at+1)*listedBytes]...)
-		}
-	}
-	return kept
-}
+// heldBytes is what is counted for each object of a listing: a list grows beyond its size, and what is left out of it stands beside it for a while.
+const heldBytes = 64
 
 // A history is listed in parts, so that short questions wait some milliseconds for it: about commitsAtOnce commits of its first parents at
 // once, and at most mostParts parts, since the child looks at all objects for each.
@@ -61,27 +26,27 @@ const (
 
 // Missing lists what the wants reach and the haves do not, each object after all that it refers to. A want that the tenant has not gives
 // ErrMissing; a have that it has not counts for nothing. Without haves, fetches that ask for the same at once share the listing.
-func (t Tenant) Missing(ctx context.Context, wants, haves []Name) (Listing, error) {
+func (t Tenant) Missing(ctx context.Context, wants, haves []plumbing.Name) (plumbing.Listing, error) {
 	if len(wants) == 0 || len(haves) > 0 {
 		return t.missing(ctx, wants, haves)
 	}
 	key := string(appendNames([]byte(t.name+" "), wants))
-	return t.pool.listings.share(ctx, key, func(ctx context.Context) (Listing, error) { return t.inParts(ctx, wants) })
+	return t.pool.listings.share(ctx, key, func(ctx context.Context) (plumbing.Listing, error) { return t.inParts(ctx, wants) })
 }
 
 // inParts lists what the wants reach. The first want's history comes in parts.
-func (t Tenant) inParts(ctx context.Context, wants []Name) (listing Listing, err error) {
+func (t Tenant) inParts(ctx context.Context, wants []plumbing.Name) (listing plumbing.Listing, err error) {
 	points, err := t.points(ctx, wants[0])
 	if err != nil {
 		return nil, err
 	}
-	var haves []Name
+	var haves []plumbing.Name
 	for _, point := range points {
-		part, err := t.missing(ctx, []Name{point}, haves)
+		part, err := t.missing(ctx, []plumbing.Name{point}, haves)
 		if err != nil {
 			return nil, err
 		}
-		listing, haves = append(listing, part...), []Name{point}
+		listing, haves = append(listing, part...), []plumbing.Name{point}
 	}
 	rest, err := t.missing(ctx, wants, haves)
 	if err != nil {
@@ -92,7 +57,7 @@ func (t Tenant) inParts(ctx context.Context, wants []Name) (listing Listing, err
 
 // points gives commits at which to part the history of an object, the oldest first: ancestors by first parents, each of which reaches the
 // ones before it. An object that leads to no commit, or to a short history, has none.
-func (t Tenant) points(ctx context.Context, of Name) ([]Name, error) {
+func (t Tenant) points(ctx context.Context, of plumbing.Name) ([]plumbing.Name, error) {
 	var distances []int
 	for distance := commitsAtOnce; distance < 1<<30; distance *= 2 {
 		distances = append(distances, distance)
@@ -102,9 +67,7 @@ func (t Tenant) points(ctx context.Context, of Name) ([]Name, error) {
 		return nil, err
 	}
 	found, err = t.ancestors(ctx, of, partings(distances[len(found)-1]*2))
-	for low, high := 0, len(found)-1; low < high; low, high = low+1, high-1 {
-		found[low], found[high] = found[high], found[low]
-	}
+	slices.Reverse(found)
 	return found, err
 }
 
@@ -121,14 +84,14 @@ func partings(length int) (distances []int) {
 }
 
 // ancestors gives the ancestors by first parents at these distances, up to the first distance at which there is none.
-func (t Tenant) ancestors(ctx context.Context, of Name, distances []int) (found []Name, err error) {
+func (t Tenant) ancestors(ctx context.Context, of plumbing.Name, distances []int) (found []plumbing.Name, err error) {
 	queries := make([]string, len(distances))
 	for at, distance := range distances {
 		queries[at] = fmt.Sprintf("rev-parse %v~%d", of, distance)
 	}
 	replies, errs, err := t.AskAll(ctx, queries)
 	for at := 0; err == nil && at < len(replies) && errs[at] == nil; at++ {
-		name, ok := ParseName(string(bytes.TrimSuffix(replies[at], []byte("\n"))))
+		name, ok := plumbing.ParseName(string(bytes.TrimSuffix(replies[at], []byte("\n"))))
 		if !ok {
 			return nil, errAnswer
 		}
@@ -138,26 +101,26 @@ func (t Tenant) ancestors(ctx context.Context, of Name, distances []int) (found 
 }
 
 // missing asks the child once.
-func (t Tenant) missing(ctx context.Context, wants, haves []Name) (Listing, error) {
+func (t Tenant) missing(ctx context.Context, wants, haves []plumbing.Name) (plumbing.Listing, error) {
 	body := missingBody(wants, haves)
 	if len(body) > frames.LongestBody {
-		return nil, Fault{25}
+		return nil, faults.Fault(25)
 	}
 	answers, err := t.send(ctx, child.Bulk, frames.Step{Kind: frames.Missing, Tenant: t.name, Body: body})()
 	if err != nil {
 		return nil, err
 	}
 	reply, err := checked(answers[0])
-	if err == nil && len(reply)%listedBytes != 0 {
+	if err == nil && len(reply)%plumbing.ListedBytes != 0 {
 		err = errAnswer
 	}
 	if err == nil {
-		err = Hold(ctx, int64(len(reply)/listedBytes)*heldBytes)
+		err = plumbing.Hold(ctx, int64(len(reply)/plumbing.ListedBytes)*heldBytes)
 	}
 	return reply, err
 }
 
-func appendNames(to []byte, names []Name) []byte {
+func appendNames(to []byte, names []plumbing.Name) []byte {
 	for _, name := range names {
 		to = append(to, name[:]...)
 	}
@@ -170,10 +133,10 @@ const entriesAtOnce = 1 << 17
 // Entries calls `use` with the entries of a pack that has these objects, an eighth of a megabyte or one object at a time; it asks for the next ones while
 // `use` has those before. A larger object is counted in the memory of the context while it is held, and is asked for once it may be. An object that the
 // tenant has not gives ErrMissing; an error of `use` ends the call and is given back.
-func (t Tenant) Entries(ctx context.Context, objects Listing, use func(entries []byte) error) error {
+func (t Tenant) Entries(ctx context.Context, objects plumbing.Listing, use func(entries []byte) error) error {
 	ctx, stop := context.WithCancel(ctx)
 	defer stop()
-	s := sending{tenant: t, memory: memoryOf(ctx), rest: objects, giveBack: nothing}
+	s := sending{tenant: t, memory: plumbing.MemoryOf(ctx), rest: objects, giveBack: nothing}
 	defer func() { s.giveBack() }()
 	for s.wait != nil || s.rest.Len() > 0 {
 		if err := s.ask(ctx); err != nil {
@@ -189,8 +152,8 @@ func (t Tenant) Entries(ctx context.Context, objects Listing, use func(entries [
 // sending has the entries of a pack on their way.
 type sending struct {
 	tenant   Tenant
-	memory   Memory
-	rest     Listing                // what was not asked for
+	memory   plumbing.Memory
+	rest     plumbing.Listing       // what was not asked for
 	wait     func() ([]byte, error) // for the entries that were asked for; nil where there are none
 	giveBack func()                 // counts these no more
 }
@@ -240,12 +203,12 @@ func (s *sending) send(ctx context.Context, use func(entries []byte) error) erro
 
 // begin asks for the first entries of the rest.
 func (s *sending) begin(ctx context.Context, count int, size uint64, giveBack func()) {
-	body := binary.BigEndian.AppendUint64(make([]byte, 0, 8+len(Name{})*count), size)
+	body := binary.BigEndian.AppendUint64(make([]byte, 0, 8+len(plumbing.Name{})*count), size)
 	for at := 0; at < count; at++ {
-		body = append(body, s.rest[at*listedBytes:at*listedBytes+len(Name{})]...)
+		body = append(body, s.rest[at*plumbing.ListedBytes:at*plumbing.ListedBytes+len(plumbing.Name{})]...)
 	}
 	answers := s.tenant.send(ctx, child.Bulk, frames.Step{Kind: frames.Entries, Tenant: s.tenant.name, Body: body})
-	s.rest, s.giveBack = s.rest[count*listedBytes:], giveBack
+	s.rest, s.giveBack = s.rest[count*plumbing.ListedBytes:], giveBack
 	s.wait = func() ([]byte, error) {
 		all, err := answers()
 		if err != nil {
@@ -260,7 +223,7 @@ func (s *sending) begin(ctx context.Context, count int, size uint64, giveBack fu
 }
 
 // firstEntries is how many objects to ask for at once, and how many bytes their entries have.
-func firstEntries(objects Listing) (count int, size uint64) {
+func firstEntries(objects plumbing.Listing) (count int, size uint64) {
 	for ; count < objects.Len(); count++ {
 		more := entryBytes(objects.Size(count))
 		if count > 0 && size+more > entriesAtOnce {

@@ -11,7 +11,9 @@ import (
 	"testing"
 
 	"gitpoold/child"
+	"gitpoold/faults"
 	"gitpoold/frames"
+	"gitpoold/plumbing"
 	"gitpoold/store"
 )
 
@@ -19,7 +21,7 @@ import (
 var edges = []int{0, 1, 15, 16, 2047, 2048, 65534, 65535, 65536, 131070, 131071, 262143, 262144, 1 << 20, 3_000_000}
 
 // edgy makes a tenant with a blob of each size.
-func edgy(t testing.TB, p *Pool, name string) (it Tenant, commit Name) {
+func edgy(t testing.TB, p *Pool, name string) (it Tenant, commit plumbing.Name) {
 	it = tenant(t, p, name)
 	err := it.Push(background, agree, func(s *Stream) (err error) {
 		s.WriteString("commit refs/heads/main\nmark :1\ncommitter a <a@b> 1 +0000\ndata 2\nhi\n")
@@ -36,11 +38,11 @@ func edgy(t testing.TB, p *Pool, name string) (it Tenant, commit Name) {
 }
 
 // nextEntry reads the next entry of a pack.
-func nextEntry(t *testing.T, from *bytes.Reader) (kind Kind, contents []byte) {
+func nextEntry(t *testing.T, from *bytes.Reader) (kind plumbing.Kind, contents []byte) {
 	t.Helper()
 	b, err := from.ReadByte()
 	size, shift := int(b&15), 4
-	for kind = Kind(b >> 4 & 7); err == nil && b&0x80 != 0; shift += 7 {
+	for kind = plumbing.Kind(b >> 4 & 7); err == nil && b&0x80 != 0; shift += 7 {
 		b, err = from.ReadByte()
 		size |= int(b&0x7f) << shift
 	}
@@ -60,7 +62,7 @@ func nextEntry(t *testing.T, from *bytes.Reader) (kind Kind, contents []byte) {
 
 func TestMissingAndEntries(t *testing.T) {
 	it, commit := edgy(t, pool(t, 0), "acme/site")
-	listing, err := it.Missing(background, []Name{commit}, nil)
+	listing, err := it.Missing(background, []plumbing.Name{commit}, nil)
 	if err != nil || listing.Len() != len(edges)+2 || listing.Name(listing.Len()-1) != commit {
 		t.Fatal(listing.Len(), err)
 	}
@@ -85,17 +87,18 @@ func TestMissingAndEntries(t *testing.T) {
 	if from.Len() > 0 {
 		t.Fatal("bytes after the last entry", from.Len())
 	}
-	if _, err := it.Missing(background, []Name{commit, {1}}, nil); !errors.Is(err, ErrMissing) {
+	if _, err := it.Missing(background, []plumbing.Name{commit, {1}}, nil); !errors.Is(err, plumbing.ErrMissing) {
 		t.Fatal(err)
 	}
-	if some, err := it.Missing(background, []Name{commit}, []Name{{1}, listing.Name(0), listing.Name(1)}); err != nil || some.Len() != len(edges) {
+	haves := []plumbing.Name{{1}, listing.Name(0), listing.Name(1)}
+	if some, err := it.Missing(background, []plumbing.Name{commit}, haves); err != nil || some.Len() != len(edges) {
 		t.Fatal(some.Len(), err)
 	}
 }
 
 // long makes a tenant whose main has `count` commits by first parents, of which every hundredth merges a commit of another branch. Each commit
 // changes one of ten files.
-func long(t *testing.T, p *Pool, name string, count int) (it Tenant, tip Name) {
+func long(t *testing.T, p *Pool, name string, count int) (it Tenant, tip plumbing.Name) {
 	it = tenant(t, p, name)
 	err := it.Push(background, agree, func(s *Stream) (err error) {
 		for at := 1; at <= count; at++ {
@@ -121,11 +124,11 @@ func TestALongHistoryIsListedInParts(t *testing.T) {
 	if err != nil || len(points) != 3 {
 		t.Fatal(len(points), err)
 	}
-	whole, err := it.missing(background, []Name{tip}, nil)
+	whole, err := it.missing(background, []plumbing.Name{tip}, nil)
 	if err != nil {
 		t.Fatal(err)
 	}
-	parts, err := it.Missing(background, []Name{tip}, nil)
+	parts, err := it.Missing(background, []plumbing.Name{tip}, nil)
 	if err != nil || parts.Len() != whole.Len() {
 		t.Fatal(parts.Len(), whole.Len(), err)
 	}
@@ -139,8 +142,8 @@ func TestALongHistoryIsListedInParts(t *testing.T) {
 }
 
 // places gives the place of each object of a listing.
-func places(l Listing) map[Name]int {
-	at := map[Name]int{}
+func places(l plumbing.Listing) map[plumbing.Name]int {
+	at := map[plumbing.Name]int{}
 	for i := 0; i < l.Len(); i++ {
 		at[l.Name(i)] = i
 	}
@@ -148,19 +151,19 @@ func places(l Listing) map[Name]int {
 }
 
 // goesUp asks that each commit of a listing comes after its tree and its parents.
-func goesUp(t *testing.T, it Tenant, l Listing, at map[Name]int) {
+func goesUp(t *testing.T, it Tenant, l plumbing.Listing, at map[plumbing.Name]int) {
 	t.Helper()
-	var commits []Name
+	var commits []plumbing.Name
 	for i := 0; i < l.Len(); i++ {
-		if l.Kind(i) == Commit {
+		if l.Kind(i) == plumbing.Commit {
 			commits = append(commits, l.Name(i))
 		}
 	}
-	err := it.Objects(background, commits, func(o Object) error {
+	err := it.Objects(background, commits, func(o plumbing.Object) error {
 		head, _, _ := bytes.Cut(o.Contents, []byte("author "))
 		for _, line := range bytes.Split(bytes.TrimSpace(head), []byte("\n")) {
 			_, digits, _ := bytes.Cut(line, []byte(" "))
-			name, ok := ParseName(string(digits))
+			name, ok := plumbing.ParseName(string(digits))
 			if place, has := at[name]; !ok || !has || place >= at[o.Name] {
 				return fmt.Errorf("%s of %v comes at %d, and the commit at %d", line, o.Name, place, at[o.Name])
 			}
@@ -174,11 +177,11 @@ func goesUp(t *testing.T, it Tenant, l Listing, at map[Name]int) {
 
 func TestWhatHasNoLongHistoryIsListedAtOnce(t *testing.T) {
 	it, tip := long(t, pool(t, 0), "acme/site", commitsAtOnce)
-	blob, err := it.missing(background, []Name{tip}, nil)
-	if err != nil || blob.Kind(0) != Blob {
+	blob, err := it.missing(background, []plumbing.Name{tip}, nil)
+	if err != nil || blob.Kind(0) != plumbing.Blob {
 		t.Fatal(err)
 	}
-	for _, of := range []Name{tip, blob.Name(0), {1}} {
+	for _, of := range []plumbing.Name{tip, blob.Name(0), {1}} {
 		if points, err := it.points(background, of); err != nil || len(points) != 0 {
 			t.Fatal(of, points, err)
 		}
@@ -203,20 +206,21 @@ func TestAnotherTenantsObjectsAreMissing(t *testing.T) {
 	p := pool(t, 0)
 	_, commit := edgy(t, p, "acme/site")
 	other := tenant(t, p, "acme/other")
-	if _, err := other.Missing(background, []Name{commit}, nil); !errors.Is(err, ErrMissing) {
+	if _, err := other.Missing(background, []plumbing.Name{commit}, nil); !errors.Is(err, plumbing.ErrMissing) {
 		t.Fatal(err)
 	}
-	if err := other.Entries(background, Listing{}.With(commit, Commit, 10), func([]byte) error { return nil }); !errors.Is(err, ErrMissing) {
+	foreign := plumbing.Listing{}.With(commit, plumbing.Commit, 10)
+	if err := other.Entries(background, foreign, func([]byte) error { return nil }); !errors.Is(err, plumbing.ErrMissing) {
 		t.Fatal(err)
 	}
-	if some, err := other.Missing(background, nil, []Name{commit}); err != nil || some.Len() != 0 {
+	if some, err := other.Missing(background, nil, []plumbing.Name{commit}); err != nil || some.Len() != 0 {
 		t.Fatal(some, err)
 	}
 }
 
 func TestEntriesEndWithTheirUse(t *testing.T) {
 	it, commit := edgy(t, pool(t, 0), "acme/site")
-	listing, err := it.Missing(background, []Name{commit}, nil)
+	listing, err := it.Missing(background, []plumbing.Name{commit}, nil)
 	if err != nil {
 		t.Fatal(err)
 	}
@@ -227,8 +231,8 @@ func TestEntriesEndWithTheirUse(t *testing.T) {
 	if err := it.Entries(background, nil, func([]byte) error { return stop }); err != nil {
 		t.Fatal(err)
 	}
-	wrong := Listing{}.With(commit, Commit, 1)
-	if err := it.Entries(background, wrong, func([]byte) error { return nil }); err != (Fault{25}) {
+	wrong := plumbing.Listing{}.With(commit, plumbing.Commit, 1)
+	if err := it.Entries(background, wrong, func([]byte) error { return nil }); err != faults.Fault(25) {
 		t.Fatal(err)
 	}
 }
@@ -273,7 +277,7 @@ func (c *counting) TryTake(bytes int64) func() {
 func TestLargeEntriesTakeMemory(t *testing.T) {
 	it, commit := edgy(t, pool(t, 0), "acme/site")
 	listed := &counting{t: t}
-	listing, err := it.Missing(Counted(background, listed), []Name{commit}, nil)
+	listing, err := it.Missing(plumbing.Counted(background, listed), []plumbing.Name{commit}, nil)
 	if err != nil || listed.held != int64(listing.Len()*heldBytes) {
 		t.Fatal(listed.held, err)
 	}
@@ -282,7 +286,7 @@ func TestLargeEntriesTakeMemory(t *testing.T) {
 	for _, c := range []*counting{{room: largest}, {room: 10 * largest}} {
 		for _, end := range []error{nil, stop} {
 			c.t, c.took, c.left = t, 0, 0
-			err := it.Entries(Counted(background, c), listing, func(entries []byte) error {
+			err := it.Entries(plumbing.Counted(background, c), listing, func(entries []byte) error {
 				if len(entries) > entriesAtOnce && c.taken < int64(len(entries)) {
 					t.Error(len(entries), c.taken)
 				}
@@ -332,7 +336,7 @@ func TestLargerObjectsThanBefore(t *testing.T) {
 	m := &measured{Keeper: p.store}
 	p.store = m
 	it := tenant(t, p, "acme/site")
-	var names []Name
+	var names []plumbing.Name
 	err := it.Push(background, agree, func(s *Stream) error {
 		for at := 1; at <= 100; at++ {
 			size := 10
@@ -354,7 +358,7 @@ func TestLargerObjectsThanBefore(t *testing.T) {
 		t.Fatal(err)
 	}
 	count := 0
-	err = it.Objects(background, names, func(o Object) error {
+	err = it.Objects(background, names, func(o plumbing.Object) error {
 		if o.Name != names[count] || strings.TrimLeft(string(o.Contents), "0") != fmt.Sprint(count+1) {
 			t.Fatal(count, len(o.Contents))
 		}
@@ -367,12 +371,12 @@ func TestLargerObjectsThanBefore(t *testing.T) {
 }
 
 func TestListings(t *testing.T) {
-	var l Listing
+	var l plumbing.Listing
 	for at := 0; at < 5; at++ {
-		l = l.With(Name{byte(at)}, Kind(1+at%4), uint64(at)<<40)
+		l = l.With(plumbing.Name{byte(at)}, plumbing.Kind(1+at%4), uint64(at)<<40)
 	}
 	l = l.Keep(func(at int) bool { return at != 1 && at != 3 })
-	if l.Len() != 3 || l.Name(1) != (Name{2}) || l.Kind(2) != 1 || l.Size(2) != 4<<40 {
+	if l.Len() != 3 || l.Name(1) != (plumbing.Name{2}) || l.Kind(2) != 1 || l.Size(2) != 4<<40 {
 		t.Fatalf("%x", []byte(l))
 	}
 }

@@ -7,6 +7,8 @@ import (
 	"sort"
 	"strings"
 
+	"gitpoold/faults"
+	"gitpoold/plumbing"
 	"gitpoold/store"
 )
 
@@ -14,11 +16,11 @@ import (
 type Refs []Ref
 
 // Target gives what a ref holds: the zero Name where it is not there.
-func (r Refs) Target(ref string) Name {
+func (r Refs) Target(ref string) plumbing.Name {
 	if at := r.from(ref); at < len(r) && r[at].Name == ref {
 		return r[at].Target
 	}
-	return Name{}
+	return plumbing.Name{}
 }
 
 // Below gives the refs that stand below a name: those that begin with it and a slash.
@@ -91,7 +93,7 @@ func (t Tenant) Push(ctx context.Context, judge func(Refs) error, feed func(*Str
 func (t Tenant) Alone(do func() error) error {
 	unlock, isTaken := t.pool.locks.try(t.name)
 	if !isTaken {
-		return Fault{31}
+		return faults.Fault(31)
 	}
 	defer unlock()
 	return do()
@@ -108,7 +110,7 @@ func (t Tenant) judged(ctx context.Context, judge func(Refs) error) error {
 func fromStore(err error) error {
 	var refused *store.Refused
 	if errors.As(err, &refused) {
-		return Fault{refused.Number}
+		return faults.Fault(refused.Number)
 	}
 	return err
 }
@@ -131,8 +133,8 @@ type Stream struct {
 
 // expectation is what the next get-mark has to print, or where to put it.
 type expectation struct {
-	name  Name
-	given *Name
+	name  plumbing.Name
+	given *plumbing.Name
 }
 
 // Write appends commands, or any part of one: a stream may be cut anywhere. What is written goes to the child in pieces; so an
@@ -163,14 +165,14 @@ func write[T string | []byte](s *Stream, text T) (written int, err error) {
 
 // Expect asks for the name of the object that a mark holds, by `get-mark`, and lets the push fail with ErrOtherName where it is not
 // this one. It waits for no answer, so use it for each object of a long push. It stands between commands.
-func (s *Stream) Expect(mark string, name Name) error {
+func (s *Stream) Expect(mark string, name plumbing.Name) error {
 	s.expected = append(s.expected, expectation{name: name})
 	_, err := s.WriteString("get-mark " + mark + "\n")
 	return err
 }
 
 // Name asks for the name of the object that a mark holds, such as `:1`, and waits for the answer. It stands between commands.
-func (s *Stream) Name(mark string) (name Name, err error) {
+func (s *Stream) Name(mark string) (name plumbing.Name, err error) {
 	s.expected = append(s.expected, expectation{given: &name})
 	if _, err := fmt.Fprintf(s, "get-mark %s\n", mark); err != nil {
 		return name, err
@@ -255,7 +257,7 @@ func (s *Stream) settle(most int) error {
 // compare takes the names that a piece printed.
 func (s *Stream) compare(printed []string) error {
 	for _, word := range printed {
-		name, ok := ParseName(word)
+		name, ok := plumbing.ParseName(word)
 		if !ok || len(s.expected) == 0 {
 			return errAnswer
 		}

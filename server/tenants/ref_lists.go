@@ -4,6 +4,8 @@ import (
 	"context"
 	"strings"
 	"sync"
+
+	"gitpoold/plumbing"
 )
 
 // refLists are the lists of refs that tenants gave last. Requests share a list as long as the refs stay the same, so those that wait for slow clients
@@ -33,7 +35,7 @@ func (l *refList) bytes() int64 { return int64(len(l.text) + refBytes*len(l.refs
 func (l *refLists) share(ctx context.Context, tenant string, text []byte) ([]Ref, error) {
 	it, err := l.find(tenant, text)
 	if err == nil {
-		err = Share(ctx, it, it.bytes())
+		err = plumbing.Share(ctx, it, it.bytes())
 	}
 	if err != nil {
 		return nil, err
@@ -94,7 +96,7 @@ func readRefs(text string) ([]Ref, error) {
 	for text != "" {
 		line, rest, _ := strings.Cut(text, "\n")
 		digits, name, found := strings.Cut(line, " ")
-		target, ok := ParseName(digits)
+		target, ok := plumbing.ParseName(digits)
 		if !found || !ok {
 			return nil, errAnswer
 		}

@@ -5,13 +5,15 @@ import (
 	"fmt"
 	"strings"
 	"testing"
+
+	"gitpoold/plumbing"
 )
 
 // refsText is what the child says of so many refs, whose names have so many bytes more.
 func refsText(count, more int) []byte {
 	var text strings.Builder
 	for at := 0; at < count; at++ {
-		fmt.Fprintf(&text, "%v refs/heads/b%05d%s\n", Name{byte(at), byte(at >> 8)}, at, strings.Repeat("x", more))
+		fmt.Fprintf(&text, "%v refs/heads/b%05d%s\n", plumbing.Name{byte(at), byte(at >> 8)}, at, strings.Repeat("x", more))
 	}
 	return []byte(text.String())
 }
@@ -20,7 +22,7 @@ func refsText(count, more int) []byte {
 func listed(t *testing.T, l *refLists, tenant string, text []byte) ([]Ref, int64) {
 	t.Helper()
 	c := &counting{t: t}
-	refs, err := l.share(Counted(background, c), tenant, text)
+	refs, err := l.share(plumbing.Counted(background, c), tenant, text)
 	if err != nil {
 		t.Fatal(err)
 	}
@@ -31,7 +33,7 @@ func TestRequestsShareAListOfRefs(t *testing.T) {
 	var l refLists
 	text := refsText(100, 0)
 	first, counts := listed(t, &l, "acme/site", text)
-	if len(first) != 100 || first[99] != (Ref{"refs/heads/b00099", Name{99}}) || counts != int64(len(text)+100*refBytes) {
+	if len(first) != 100 || first[99] != (Ref{"refs/heads/b00099", plumbing.Name{99}}) || counts != int64(len(text)+100*refBytes) {
 		t.Fatal(len(first), counts)
 	}
 	if second, _ := listed(t, &l, "acme/site", refsText(100, 0)); &second[0] != &first[0] {
@@ -52,13 +54,13 @@ func TestRequestsShareAListOfRefs(t *testing.T) {
 }
 
 // full is a memory that holds nothing.
-type full struct{ endless }
+type full struct{ plumbing.Endless }
 
 func (full) Share(any, int64) error { return errFull }
 
 func TestARequestMayNotHoldAListOfRefs(t *testing.T) {
 	var l refLists
-	if _, err := l.share(Counted(context.Background(), full{}), "acme/site", refsText(1, 0)); err != errFull {
+	if _, err := l.share(plumbing.Counted(context.Background(), full{}), "acme/site", refsText(1, 0)); err != errFull {
 		t.Fatal(err)
 	}
 }

@@ -5,6 +5,7 @@ import (
 	"sync"
 
 	"gitpoold/child"
+	"gitpoold/plumbing"
 )
 
 // listings are the histories that are being listed. Fetches that want the same of a tenant at the same time share one listing: what objects
@@ -16,20 +17,20 @@ type listings struct {
 
 // sharedListing is a listing on its way, and the fetches that wait for it. Each of them counts all of it as its own.
 type sharedListing struct {
-	endless
+	plumbing.Endless
 	of      *listings
 	key     string
 	waiting map[*waiter]bool
 	bytes   int64 // that were counted so far
 	stop    context.CancelFunc
 	done    chan struct{}
-	listing Listing
+	listing plumbing.Listing
 	err     error
 }
 
 // waiter is a fetch that waits for a listing. `refused` is closed where it may not hold as much, with the reason in `err`.
 type waiter struct {
-	memory  Memory
+	memory  plumbing.Memory
 	isFirst bool
 	refused chan struct{}
 	err     error
@@ -37,7 +38,7 @@ type waiter struct {
 
 // share gives the listing that `list` makes, or the one of another fetch that has the same key. The listing is made as long as somebody waits
 // for it. Nobody may change it.
-func (l *listings) share(ctx context.Context, key string, list func(context.Context) (Listing, error)) (Listing, error) {
+func (l *listings) share(ctx context.Context, key string, list func(context.Context) (plumbing.Listing, error)) (plumbing.Listing, error) {
 	it, w, err := l.join(ctx, key, list)
 	if err != nil {
 		return nil, err
@@ -58,15 +59,16 @@ func (l *listings) share(ctx context.Context, key string, list func(context.Cont
 	return it.listing, it.err
 }
 
-func (l *listings) join(ctx context.Context, key string, list func(context.Context) (Listing, error)) (it *sharedListing, w *waiter, err error) {
+func (l *listings) join(ctx context.Context, key string, list func(context.Context) (plumbing.Listing, error)) (*sharedListing, *waiter, error) {
 	l.mutex.Lock()
 	defer l.mutex.Unlock()
-	w = &waiter{memory: memoryOf(ctx), refused: make(chan struct{})}
-	if it = l.made[key]; it == nil {
+	w := &waiter{memory: plumbing.MemoryOf(ctx), refused: make(chan struct{})}
+	it := l.made[key]
+	if it == nil {
 		w.isFirst = true
 		it = l.begin(ctx, key, list)
 	}
-	if err = w.memory.Hold(it.bytes); err != nil {
+	if err := w.memory.Hold(it.bytes); err != nil {
 		l.drop(it, w)
 		return it, w, err
 	}
@@ -75,18 +77,18 @@ func (l *listings) join(ctx context.Context, key string, list func(context.Conte
 }
 
 // begin begins to make a listing; the mutex is held.
-func (l *listings) begin(ctx context.Context, key string, list func(context.Context) (Listing, error)) *sharedListing {
+func (l *listings) begin(ctx context.Context, key string, list func(context.Context) (plumbing.Listing, error)) *sharedListing {
 	making, stop := context.WithCancel(child.Endless(ctx))
 	it := &sharedListing{of: l, key: key, waiting: map[*waiter]bool{}, stop: stop, done: make(chan struct{})}
 	if l.made == nil {
 		l.made = map[string]*sharedListing{}
 	}
 	l.made[key] = it
-	go l.make(Counted(making, it), it, list)
+	go l.make(plumbing.Counted(making, it), it, list)
 	return it
 }
 
-func (l *listings) make(ctx context.Context, it *sharedListing, list func(context.Context) (Listing, error)) {
+func (l *listings) make(ctx context.Context, it *sharedListing, list func(context.Context) (plumbing.Listing, error)) {
 	defer it.stop()
 	listing, err := list(ctx)
 	it.listing, it.err = listing[:len(listing):len(listing)], err

@@ -6,16 +6,18 @@ import (
 	"sync"
 	"testing"
 	"time"
+
+	"gitpoold/plumbing"
 )
 
 // made is what a call of share gave.
 type made struct {
-	listing Listing
+	listing plumbing.Listing
 	err     error
 }
 
 // sharing asks for a listing of one key from a goroutine of its own.
-func sharing(ctx context.Context, l *listings, list func(context.Context) (Listing, error)) <-chan made {
+func sharing(ctx context.Context, l *listings, list func(context.Context) (plumbing.Listing, error)) <-chan made {
 	told := make(chan made, 1)
 	go func() {
 		listing, err := l.share(ctx, "key", list)
@@ -37,11 +39,11 @@ func waitFor(l *listings, count int) {
 
 func TestFetchesShareAListing(t *testing.T) {
 	var l listings
-	one := Listing{}.With(Name{1}, Blob, 1)
+	one := plumbing.Listing{}.With(plumbing.Name{1}, plumbing.Blob, 1)
 	begun, goOn := make(chan struct{}), make(chan struct{})
-	first := sharing(background, &l, func(context.Context) (Listing, error) { close(begun); <-goOn; return one, nil })
+	first := sharing(background, &l, func(context.Context) (plumbing.Listing, error) { close(begun); <-goOn; return one, nil })
 	<-begun
-	second := sharing(background, &l, func(context.Context) (Listing, error) { return nil, errors.New("asked twice") })
+	second := sharing(background, &l, func(context.Context) (plumbing.Listing, error) { return nil, errors.New("asked twice") })
 	waitFor(&l, 2)
 	close(goOn)
 	for _, told := range []<-chan made{first, second} {
@@ -49,7 +51,7 @@ func TestFetchesShareAListing(t *testing.T) {
 			t.Fatal(it)
 		}
 	}
-	if it := <-sharing(background, &l, func(context.Context) (Listing, error) { return nil, nil }); it.err != nil || it.listing.Len() != 0 {
+	if it := <-sharing(background, &l, func(context.Context) (plumbing.Listing, error) { return nil, nil }); it.err != nil || it.listing.Len() != 0 {
 		t.Fatal("a listing stays after it was made", it)
 	}
 }
@@ -57,7 +59,7 @@ func TestFetchesShareAListing(t *testing.T) {
 func TestASharedListingOutlivesWhoBeganIt(t *testing.T) {
 	var l listings
 	begun, goOn := make(chan struct{}), make(chan struct{})
-	list := func(ctx context.Context) (Listing, error) { close(begun); <-goOn; return nil, ctx.Err() }
+	list := func(ctx context.Context) (plumbing.Listing, error) { close(begun); <-goOn; return nil, ctx.Err() }
 	ctx, stop := context.WithCancel(background)
 	first := sharing(ctx, &l, list)
 	<-begun
@@ -78,7 +80,7 @@ func TestAListingForNobodyEnds(t *testing.T) {
 	ended := make(chan error)
 	begun := make(chan struct{})
 	ctx, stop := context.WithCancel(background)
-	told := sharing(ctx, &l, func(ctx context.Context) (Listing, error) {
+	told := sharing(ctx, &l, func(ctx context.Context) (plumbing.Listing, error) {
 		close(begun)
 		<-ctx.Done()
 		ended <- ctx.Err()
@@ -97,12 +99,14 @@ func TestAListingForNobodyEnds(t *testing.T) {
 func TestAFaultOfASharedListingIsItsFirstCallersAlone(t *testing.T) {
 	var l listings
 	begun, goOn := make(chan struct{}), make(chan struct{})
-	first := sharing(background, &l, func(context.Context) (Listing, error) { close(begun); <-goOn; return nil, ErrMissing })
+	first := sharing(background, &l, func(context.Context) (plumbing.Listing, error) { close(begun); <-goOn; return nil, plumbing.ErrMissing })
 	<-begun
-	second := sharing(background, &l, func(context.Context) (Listing, error) { return Listing{}.With(Name{2}, Blob, 1), nil })
+	second := sharing(background, &l, func(context.Context) (plumbing.Listing, error) {
+		return plumbing.Listing{}.With(plumbing.Name{2}, plumbing.Blob, 1), nil
+	})
 	waitFor(&l, 2)
 	close(goOn)
-	if it := <-first; it.err != ErrMissing {
+	if it := <-first; it.err != plumbing.ErrMissing {
 		t.Fatal(it)
 	}
 	if it := <-second; it.err != nil || it.listing.Len() != 1 {
@@ -112,7 +116,7 @@ func TestAFaultOfASharedListingIsItsFirstCallersAlone(t *testing.T) {
 
 // limited is a memory of so many bytes.
 type limited struct {
-	endless
+	plumbing.Endless
 	mutex      sync.Mutex
 	held, most int64
 }
@@ -135,21 +139,21 @@ func TestWhoMayNotHoldASharedListingIsRefused(t *testing.T) {
 	var l listings
 	first, second, late := &limited{most: 150}, &limited{most: 200}, &limited{most: 99}
 	begun, goOn := make(chan struct{}), make(chan struct{})
-	list := func(ctx context.Context) (Listing, error) {
+	list := func(ctx context.Context) (plumbing.Listing, error) {
 		for part := 0; part < 2; part++ {
-			if err := Hold(ctx, 100); err != nil {
+			if err := plumbing.Hold(ctx, 100); err != nil {
 				return nil, err
 			}
 			begun <- struct{}{}
 			<-goOn
 		}
-		return Listing{}.With(Name{1}, Blob, 1), ctx.Err()
+		return plumbing.Listing{}.With(plumbing.Name{1}, plumbing.Blob, 1), ctx.Err()
 	}
-	firsts := sharing(Counted(background, first), &l, list)
+	firsts := sharing(plumbing.Counted(background, first), &l, list)
 	<-begun
-	seconds := sharing(Counted(background, second), &l, list)
+	seconds := sharing(plumbing.Counted(background, second), &l, list)
 	waitFor(&l, 2)
-	if it := <-sharing(Counted(background, late), &l, list); it.err != errFull {
+	if it := <-sharing(plumbing.Counted(background, late), &l, list); it.err != errFull {
 		t.Fatal(it)
 	}
 	goOn <- struct{}{}
@@ -169,8 +173,8 @@ func TestWhoMayNotHoldASharedListingIsRefused(t *testing.T) {
 func TestAListingThatNobodyMayHoldEnds(t *testing.T) {
 	var l listings
 	ended := make(chan error)
-	told := sharing(Counted(background, &limited{most: 99}), &l, func(ctx context.Context) (Listing, error) {
-		if err := Hold(ctx, 100); err != nil {
+	told := sharing(plumbing.Counted(background, &limited{most: 99}), &l, func(ctx context.Context) (plumbing.Listing, error) {
+		if err := plumbing.Hold(ctx, 100); err != nil {
 			return nil, err
 		}
 		<-ctx.Done()

@@ -12,9 +12,11 @@ import (
 	"regexp"
 	"strings"
 
-	"gitpoold/answers"
 	"gitpoold/child"
+	"gitpoold/faults"
 	"gitpoold/frames"
+	"gitpoold/idempotency"
+	"gitpoold/plumbing"
 	"gitpoold/store"
 )
 
@@ -22,7 +24,7 @@ import (
 type Keeper interface {
 	Ask(ctx context.Context, class child.Class, steps ...frames.Step) (store.Answers, error)
 	Begin(ctx context.Context, tenant string, form store.Form) (*store.Stream, error)
-	Kept(tenant, token string) (answers.Answer, bool)
+	Kept(tenant, token string) (idempotency.Answer, bool)
 	Bytes(tenant string) int64
 	AtMost(tenant string) int64
 	Recount(ctx context.Context, tenant string) error
@@ -63,7 +65,7 @@ func ValidName(name string) bool { return len(name) <= longestName && tenantName
 // Tenant gives the tenant of a name; one that was never seen is an empty repository. A bad name is refused under 32.
 func (p *Pool) Tenant(name string) (Tenant, error) {
 	if !ValidName(name) {
-		return Tenant{}, Fault{32}
+		return Tenant{}, faults.Fault(32)
 	}
 	return Tenant{pool: p, name: name}, nil
 }
@@ -74,7 +76,7 @@ func (t Tenant) Name() string { return t.name }
 // Ref is a ref and the object that it holds.
 type Ref struct {
 	Name   string
-	Target Name
+	Target plumbing.Name
 }
 
 // begin sends questions in one batch, and gives the call that waits for their answers.
@@ -104,11 +106,11 @@ func (t Tenant) send(ctx context.Context, class child.Class, steps ...frames.Ste
 func checked(answer frames.Answer) ([]byte, error) {
 	switch {
 	case answer.Status == frames.Memory:
-		return nil, Fault{90}
+		return nil, faults.Fault(90)
 	case answer.Status == frames.Fault && answer.Value == 16:
-		return nil, ErrMissing
+		return nil, plumbing.ErrMissing
 	case answer.Status == frames.Fault:
-		return nil, Fault{int(answer.Value)}
+		return nil, faults.Fault(answer.Value)
 	}
 	return answer.Reply, nil
 }
@@ -152,7 +154,7 @@ func (t Tenant) Refs(ctx context.Context) (refs []Ref, head string, err error) {
 
 // Log gives the commits of a range of gitrevisions(7), such as `main` or `A..B`, from new to old by the committer's time; so a parent
 // may come before its child. It is Fault 25 where their messages have first lines of more than longestLog bytes in all.
-func (t Tenant) Log(ctx context.Context, revisions string) ([]Name, error) {
+func (t Tenant) Log(ctx context.Context, revisions string) ([]plumbing.Name, error) {
 	answers, err := t.begin(child.Longest(ctx, longestLog), child.Bulk, []string{"log " + revisions})()
 	if err != nil {
 		return nil, err
@@ -161,10 +163,10 @@ func (t Tenant) Log(ctx context.Context, revisions string) ([]Name, error) {
 	if err != nil {
 		return nil, err
 	}
-	var names []Name
+	var names []plumbing.Name
 	for len(text) > 0 {
 		line, rest, _ := bytes.Cut(text, []byte("\n"))
-		name, ok := ParseName(string(line[:min(len(line), digits)]))
+		name, ok := plumbing.ParseName(string(line[:min(len(line), digits)]))
 		if !ok {
 			return nil, errAnswer
 		}
@@ -178,10 +180,3 @@ const longestLog = 8 << 20
 
 // digits is how many digits the name of an object has.
 const digits = 40
-
-func min(a, b int) int {
-	if a < b {
-		return a
-	}
-	return b
-}

@@ -12,6 +12,8 @@ import (
 	"testing"
 	"time"
 
+	"gitpoold/faults"
+	"gitpoold/plumbing"
 	"gitpoold/store"
 )
 
@@ -48,7 +50,7 @@ func tenant(t testing.TB, p *Pool, name string) Tenant {
 func agree(Refs) error { return nil }
 
 // commits feeds a commit with a file to main.
-func commits(contents string, name *Name) func(*Stream) error {
+func commits(contents string, name *plumbing.Name) func(*Stream) error {
 	return func(s *Stream) error {
 		s.WriteString("commit refs/heads/main\nmark :1\ncommitter a <a@b> 1 +0000\ndata 2\nhi\nM 644 inline f\n")
 		fmt.Fprintf(s, "data %d\n%s\n", len(contents), contents)
@@ -62,7 +64,7 @@ func commits(contents string, name *Name) func(*Stream) error {
 
 func TestPushAndRead(t *testing.T) {
 	it := tenant(t, pool(t, 0), "acme/site")
-	var name Name
+	var name plumbing.Name
 	told := 0
 	err := it.Push(background, agree, func(s *Stream) error {
 		s.WhenItLasts(func() {
@@ -85,20 +87,20 @@ func TestPushAndRead(t *testing.T) {
 		t.Fatal(names, err)
 	}
 	o, err := it.Object(background, name)
-	if err != nil || o.Kind != Commit || !bytes.HasSuffix(o.Contents, []byte("\n\nhi")) {
+	if err != nil || o.Kind != plumbing.Commit || !bytes.HasSuffix(o.Contents, []byte("\n\nhi")) {
 		t.Fatal(o, err)
 	}
-	has, err := it.Has(background, []Name{name, {1}, name})
+	has, err := it.Has(background, []plumbing.Name{name, {1}, name})
 	if err != nil || !has[0] || has[1] || !has[2] {
 		t.Fatal(has, err)
 	}
-	if _, err := it.Ask(background, "cat nothing"); !errors.Is(err, ErrMissing) {
+	if _, err := it.Ask(background, "cat nothing"); !errors.Is(err, plumbing.ErrMissing) {
 		t.Fatal(err)
 	}
-	if _, err := it.Ask(background, "what"); err != (Fault{40}) {
+	if _, err := it.Ask(background, "what"); err != faults.Fault(40) {
 		t.Fatal(err)
 	}
-	if err := it.Objects(background, []Name{name, {9}}, func(Object) error { return nil }); !errors.Is(err, ErrMissing) {
+	if err := it.Objects(background, []plumbing.Name{name, {9}}, func(plumbing.Object) error { return nil }); !errors.Is(err, plumbing.ErrMissing) {
 		t.Fatal(err)
 	}
 }
@@ -106,7 +108,7 @@ func TestPushAndRead(t *testing.T) {
 func TestObjectsComeInOrder(t *testing.T) {
 	it := tenant(t, pool(t, 0), "a")
 	const count = 300
-	names := make([]Name, count)
+	names := make([]plumbing.Name, count)
 	err := it.Push(background, agree, func(s *Stream) (err error) {
 		for i := range names {
 			fmt.Fprintf(s, "blob\nmark :1\ndata %d\n%s\n", i*999, strings.Repeat(string(rune('a'+i%26)), i*999))
@@ -123,8 +125,8 @@ func TestObjectsComeInOrder(t *testing.T) {
 		t.Fatal(err)
 	}
 	at := 0
-	err = it.Objects(background, names, func(o Object) error {
-		if o.Name != names[at] || o.Kind != Blob || len(o.Contents) != at*999 {
+	err = it.Objects(background, names, func(o plumbing.Object) error {
+		if o.Name != names[at] || o.Kind != plumbing.Blob || len(o.Contents) != at*999 {
 			return fmt.Errorf("object %d is another", at)
 		}
 		at++
@@ -134,7 +136,7 @@ func TestObjectsComeInOrder(t *testing.T) {
 		t.Fatal(at, err)
 	}
 	stop := errors.New("stop")
-	if err := it.Objects(background, names, func(Object) error { return stop }); err != stop {
+	if err := it.Objects(background, names, func(plumbing.Object) error { return stop }); err != stop {
 		t.Fatal(err)
 	}
 }
@@ -143,7 +145,7 @@ func TestObjectsComeInOrder(t *testing.T) {
 func TestAPushThatFailsLeavesNothing(t *testing.T) {
 	it := tenant(t, pool(t, 0), "a")
 	refused := errors.New("refused")
-	expects := func(name Name) func(*Stream) error {
+	expects := func(name plumbing.Name) func(*Stream) error {
 		return func(s *Stream) error {
 			s.WriteString("blob\nmark :1\ndata 3\nabc\n")
 			return s.Expect(":1", name)
@@ -156,11 +158,11 @@ func TestAPushThatFailsLeavesNothing(t *testing.T) {
 	}{
 		"judge":   {func(Refs) error { return refused }, commits("x", nil), refused},
 		"feed":    {agree, func(s *Stream) error { commits("x", nil)(s); return refused }, refused},
-		"name":    {agree, expects(Name{1}), ErrOtherName},
-		"command": {agree, func(s *Stream) error { s.WriteString("what\n"); return nil }, Fault{2}},
-		"large":   {agree, func(s *Stream) error { s.WriteString("blob\ndata 99999999999\n"); return nil }, Fault{25}},
-		"last":    {agree, func(s *Stream) error { commits("x", nil)(s); s.Last("what\n"); return nil }, Fault{2}},
-		"half":    {agree, func(s *Stream) error { s.WriteString("blob\ndata 9\nx"); return nil }, Fault{7}},
+		"name":    {agree, expects(plumbing.Name{1}), ErrOtherName},
+		"command": {agree, func(s *Stream) error { s.WriteString("what\n"); return nil }, faults.Fault(2)},
+		"large":   {agree, func(s *Stream) error { s.WriteString("blob\ndata 99999999999\n"); return nil }, faults.Fault(25)},
+		"last":    {agree, func(s *Stream) error { commits("x", nil)(s); s.Last("what\n"); return nil }, faults.Fault(2)},
+		"half":    {agree, func(s *Stream) error { s.WriteString("blob\ndata 9\nx"); return nil }, faults.Fault(7)},
 	} {
 		err := it.Push(background, one.judge, one.feed)
 		if !errors.Is(err, one.want) && name != "half" || err == nil {
@@ -170,7 +172,7 @@ func TestAPushThatFailsLeavesNothing(t *testing.T) {
 			t.Errorf("%s left %v %v", name, refs, err)
 		}
 	}
-	abc, _ := ParseName("f2ba8f84ab5c1bce84a7b441cb1959cfc7093b7f")
+	abc, _ := plumbing.ParseName("f2ba8f84ab5c1bce84a7b441cb1959cfc7093b7f")
 	if err := it.Push(background, agree, expects(abc)); err != nil {
 		t.Fatal(err)
 	}
@@ -256,16 +258,16 @@ func TestNames(t *testing.T) {
 		"-a": false, "a/-b": false, "../a": false, "a.git": false, "a b": false, "a\n": false, strings.Repeat("x", 64): true,
 		strings.Repeat("x", 65): false, "_": true} {
 		_, err := p.Tenant(name)
-		if (err == nil) != good || err != nil && err != (Fault{32}) {
+		if (err == nil) != good || err != nil && err != faults.Fault(32) {
 			t.Errorf("%q: %v", name, err)
 		}
 		// The program judges names in the same way.
 		_, err = Tenant{pool: p, name: name}.Ask(background, "head")
-		if (err == nil) != good || err != nil && err != (Fault{32}) {
+		if (err == nil) != good || err != nil && err != faults.Fault(32) {
 			t.Errorf("%q: the program says %v", name, err)
 		}
 	}
-	for _, err := range []error{ErrFull, ErrBusy, fmt.Errorf("x: %w", ErrOtherName), Fault{25}, Fault{99}} {
+	for _, err := range []error{ErrFull, ErrBusy, fmt.Errorf("x: %w", ErrOtherName), faults.Fault(25), faults.Fault(99)} {
 		if !IsSentence(err) {
 			t.Error(err)
 		}

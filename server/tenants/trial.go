@@ -5,6 +5,7 @@ import (
 	"encoding/binary"
 
 	"gitpoold/frames"
+	"gitpoold/plumbing"
 	"gitpoold/store"
 )
 
@@ -24,20 +25,20 @@ func (t Trial) Refs() ([]Ref, error) {
 }
 
 // Reaches tells whether one of these commits reaches another one, or is it.
-func (t Trial) Reaches(from []Name, to Name) (bool, error) {
-	missing, err := t.ask(frames.Step{Kind: frames.Missing, Tenant: t.tenant, Body: missingBody([]Name{to}, from)})
+func (t Trial) Reaches(from []plumbing.Name, to plumbing.Name) (bool, error) {
+	missing, err := t.ask(frames.Step{Kind: frames.Missing, Tenant: t.tenant, Body: missingBody([]plumbing.Name{to}, from)})
 	return len(missing) == 0, fromStore(err)
 }
 
 // Reaches tells whether one of these objects reaches another one, or is it. One that the tenant has not reaches nothing.
-func (t Tenant) Reaches(ctx context.Context, from []Name, to Name) (bool, error) {
-	missing, err := t.missing(ctx, []Name{to}, from)
+func (t Tenant) Reaches(ctx context.Context, from []plumbing.Name, to plumbing.Name) (bool, error) {
+	missing, err := t.missing(ctx, []plumbing.Name{to}, from)
 	return err == nil && len(missing) == 0, err
 }
 
 // missingBody is the body of the question what the wants reach and the haves do not.
-func missingBody(wants, haves []Name) []byte {
-	body := binary.BigEndian.AppendUint32(make([]byte, 0, 4+len(Name{})*(len(wants)+len(haves))), uint32(len(wants)))
+func missingBody(wants, haves []plumbing.Name) []byte {
+	body := binary.BigEndian.AppendUint32(make([]byte, 0, 4+len(plumbing.Name{})*(len(wants)+len(haves))), uint32(len(wants)))
 	return appendNames(appendNames(body, wants), haves)
 }
 

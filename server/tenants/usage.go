@@ -41,9 +41,7 @@ func (t Tenant) Room() (int64, error) {
 	if !isBounded {
 		return room, nil
 	}
-	if left := most - t.pool.store.Bytes(t.name); left < room {
-		room = left
-	}
+	room = min(room, most-t.pool.store.Bytes(t.name))
 	if room <= 0 {
 		return 0, ErrFull
 	}

@@ -10,16 +10,16 @@ import (
 	"testing"
 
 	"gitpoold/pktline"
-	"gitpoold/tenants"
+	"gitpoold/plumbing"
 )
 
 // readingRepository counts how often the contents of each object are read.
 type readingRepository struct {
 	*memoryRepository
-	reads map[tenants.Name]int
+	reads map[plumbing.Name]int
 }
 
-func (r *readingRepository) Objects(ctx context.Context, names []tenants.Name, use func(tenants.Object) error) error {
+func (r *readingRepository) Objects(ctx context.Context, names []plumbing.Name, use func(plumbing.Object) error) error {
 	for _, name := range names {
 		r.reads[name]++
 	}
@@ -29,7 +29,7 @@ func (r *readingRepository) Objects(ctx context.Context, names []tenants.Name, u
 // session gives the answer to a whole session.
 func (r *readingRepository) session(version int, request []byte) string {
 	var out bytes.Buffer
-	r.reads = map[tenants.Name]int{}
+	r.reads = map[plumbing.Name]int{}
 	_ = Server{}.Serve(context.Background(), r, bufio.NewReader(bytes.NewReader(request)), pktline.NewWriter(&out), version, false)
 	return out.String()
 }
@@ -46,12 +46,12 @@ func (r *readingRepository) total() (sum int) {
 // blob too. The contents of a blob or a tree are never read for that, and those of a tag once.
 func TestWhatAClientHasIsNotRead(t *testing.T) {
 	m, commits := smallRepository()
-	blob, tree := m.add(tenants.Blob, strings.Repeat("large", 1000)), m.add(tenants.Tree, "")
-	outer := m.add(tenants.Tag, fmt.Sprintf("object %v\ntype tag\ntag w\n\nm\n", m.refs[1].Target))
+	blob, tree := m.add(plumbing.Blob, strings.Repeat("large", 1000)), m.add(plumbing.Tree, "")
+	outer := m.add(plumbing.Tag, fmt.Sprintf("object %v\ntype tag\ntag w\n\nm\n", m.refs[1].Target))
 	r := &readingRepository{memoryRepository: m}
 	var once, often, told []byte
 	for at := 0; at < 200; at++ {
-		for _, name := range []tenants.Name{blob, tree, outer, commits[0]} {
+		for _, name := range []plumbing.Name{blob, tree, outer, commits[0]} {
 			have := lines(fmt.Sprintf("have %v\n", name))
 			told = append(told, have...)
 			once = append(once, have...)
@@ -70,7 +70,7 @@ func TestWhatAClientHasIsNotRead(t *testing.T) {
 		"the second protocol": {2, bytes.Join([][]byte{asked, told, lines("")}, nil)},
 	} {
 		answer := r.session(it.version, it.request)
-		for _, name := range []tenants.Name{blob, tree, outer, commits[0]} {
+		for _, name := range []plumbing.Name{blob, tree, outer, commits[0]} {
 			if !strings.Contains(answer, "ACK "+name.String()) {
 				t.Errorf("%s: %v is not acknowledged: %.300q", what, name, answer)
 			}
@@ -86,7 +86,7 @@ func TestWhatAClientHasIsNotRead(t *testing.T) {
 func TestAChainOfTagsIsFollowedOnce(t *testing.T) {
 	c, commit, tags := nestedRepository(300)
 	r := &readingRepository{memoryRepository: c.memoryRepository}
-	apart := r.add(tenants.Commit, fmt.Sprintf("tree %v\nauthor A <a@b> 5 +0000\ncommitter A <a@b> 5 +0000\n\nm\n", r.add(tenants.Tree, "")))
+	apart := r.add(plumbing.Commit, fmt.Sprintf("tree %v\nauthor A <a@b> 5 +0000\ncommitter A <a@b> 5 +0000\n\nm\n", r.add(plumbing.Tree, "")))
 	var rounds, together []byte
 	for _, tag := range tags {
 		have := lines(fmt.Sprintf("have %v\n", tag))

@@ -17,6 +17,7 @@ import (
 	"gitpoold/metrics"
 	"gitpoold/packcache"
 	"gitpoold/pktline"
+	"gitpoold/plumbing"
 	"gitpoold/tenants"
 )
 
@@ -79,7 +80,7 @@ func (p *packed) ask(m Repository, request []byte) (answer []byte, err error) {
 }
 
 // clone clones objects, asks that just what they reach has come, and gives how many bytes that took.
-func (p *packed) clone(m *memoryRepository, wants ...tenants.Name) int {
+func (p *packed) clone(m *memoryRepository, wants ...plumbing.Name) int {
 	p.t.Helper()
 	answer, err := p.ask(m, wanting("ofs-delta include-tag", wants...))
 	if err != nil {
@@ -90,7 +91,7 @@ func (p *packed) clone(m *memoryRepository, wants ...tenants.Name) int {
 }
 
 // wanting is a request for objects by a client that can so much.
-func wanting(can string, wants ...tenants.Name) []byte {
+func wanting(can string, wants ...plumbing.Name) []byte {
 	var asked []string
 	for at, want := range wants {
 		asked = append(asked, fmt.Sprintf("want %v", want))
@@ -103,7 +104,7 @@ func wanting(can string, wants ...tenants.Name) []byte {
 }
 
 // has asks that an answer has just what names reach, each object once.
-func (p *packed) has(m *memoryRepository, answer []byte, names ...tenants.Name) {
+func (p *packed) has(m *memoryRepository, answer []byte, names ...plumbing.Name) {
 	p.t.Helper()
 	listing, err := m.Missing(background, names, nil)
 	if err != nil {
@@ -114,7 +115,7 @@ func (p *packed) has(m *memoryRepository, answer []byte, names ...tenants.Name) 
 		wanted = append(wanted, listing.Name(at).String())
 	}
 	q := packIn(p.t, answer)
-	for kind := tenants.Commit; kind <= tenants.Tag; kind++ {
+	for kind := plumbing.Commit; kind <= plumbing.Tag; kind++ {
 		_ = q.Each(kind, func(at int) error {
 			got = append(got, q.NameAt(at).String())
 			return nil
@@ -128,14 +129,14 @@ func (p *packed) has(m *memoryRepository, answer []byte, names ...tenants.Name) 
 }
 
 // wordy is a repository of so many commits, each with a change of a text that git makes small, and the commits.
-func wordy(name string, count int, seed int64) (*memoryRepository, []tenants.Name) {
-	m := &memoryRepository{objects: map[tenants.Name]tenants.Object{}, head: "refs/heads/main", name: name}
-	var commits []tenants.Name
+func wordy(name string, count int, seed int64) (*memoryRepository, []plumbing.Name) {
+	m := &memoryRepository{objects: map[plumbing.Name]plumbing.Object{}, head: "refs/heads/main", name: name}
+	var commits []plumbing.Name
 	text := make([]string, 700)
 	for at := range text {
 		text[at] = fmt.Sprintf("line %d %d", seed, rand.Int63())
 	}
-	parent := tenants.Name{}
+	parent := plumbing.Name{}
 	for at := 0; at < count; at++ {
 		text[at] = fmt.Sprintf("changed %d %d", seed, at)
 		parent = m.commit(strings.Join(text, "\n"), parent)
@@ -146,9 +147,9 @@ func wordy(name string, count int, seed int64) (*memoryRepository, []tenants.Nam
 }
 
 // commit adds a commit with one file.
-func (m *memoryRepository) commit(contents string, parents ...tenants.Name) tenants.Name {
-	blob := m.add(tenants.Blob, contents)
-	tree := m.add(tenants.Tree, "100644 f\x00"+string(blob[:]))
+func (m *memoryRepository) commit(contents string, parents ...plumbing.Name) plumbing.Name {
+	blob := m.add(plumbing.Blob, contents)
+	tree := m.add(plumbing.Tree, "100644 f\x00"+string(blob[:]))
 	said := fmt.Sprintf("tree %v\n", tree)
 	for _, parent := range parents {
 		if !parent.IsZero() {
@@ -156,7 +157,7 @@ func (m *memoryRepository) commit(contents string, parents ...tenants.Name) tena
 		}
 	}
 	who := fmt.Sprintf("A <a@b> %d +0000", 1000+len(m.objects))
-	return m.add(tenants.Commit, said+fmt.Sprintf("author %s\ncommitter %s\n\nm\n", who, who))
+	return m.add(plumbing.Commit, said+fmt.Sprintf("author %s\ncommitter %s\n\nm\n", who, who))
 }
 
 func TestAClonePackedByGit(t *testing.T) {
@@ -180,7 +181,7 @@ func TestAClonePackedByGit(t *testing.T) {
 	// A merge of two roots, one of which the pack was made for.
 	p.clone(m, m.commit("merged", next, m.commit("root")))
 	// What does not reach the tip of the pack goes the ordinary way.
-	for _, other := range []tenants.Name{commits[8], m.commit("rewritten", commits[8])} {
+	for _, other := range []plumbing.Name{commits[8], m.commit("rewritten", commits[8])} {
 		if p.clone(m, other); p.cache.State().Near != 3 {
 			t.Fatalf("%+v", p.cache.State())
 		}
@@ -243,9 +244,9 @@ func TestATenantMadeAnew(t *testing.T) {
 		t.Fatalf("%+v %v", s, p.files())
 	}
 	// The same names, and other contents: as if the two had one name. Nothing of the pack before is sent.
-	blob := tenants.Name{}
+	blob := plumbing.Name{}
 	for name, o := range m.objects {
-		if o.Kind == tenants.Blob {
+		if o.Kind == plumbing.Blob {
 			blob = name
 		}
 	}
@@ -257,7 +258,7 @@ func TestATenantMadeAnew(t *testing.T) {
 		t.Fatalf("%v: %+v", err, s)
 	}
 	q, isThere := packIn(t, answer), false
-	_ = q.Each(tenants.Blob, func(at int) error {
+	_ = q.Each(plumbing.Blob, func(at int) error {
 		contents, err := q.ContentsAt(at)
 		isThere = isThere || err == nil && bytes.Equal(contents, changed.Contents)
 		return nil
@@ -497,9 +498,9 @@ func TestTagsOfKeptPacks(t *testing.T) {
 	p := newPacked(t)
 	m, commits := wordy("acme/a", 10, 1)
 	tip := commits[9]
-	tag := func(name string, of tenants.Name) tenants.Name {
-		added := m.add(tenants.Tag, fmt.Sprintf("object %v\ntype commit\ntag %s\n\nm\n", of, name))
-		m.refs = append(m.refs, tenants.Ref{Name: tagRefs + name, Target: added})
+	tag := func(name string, of plumbing.Name) plumbing.Name {
+		added := m.add(plumbing.Tag, fmt.Sprintf("object %v\ntype commit\ntag %s\n\nm\n", of, name))
+		m.refs = append(m.refs, tenants.Ref{Name: plumbing.Tags + name, Target: added})
 		return added
 	}
 	inside := tag("a", commits[2])

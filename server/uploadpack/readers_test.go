@@ -10,6 +10,7 @@ import (
 	"testing"
 
 	"gitpoold/pktline"
+	"gitpoold/plumbing"
 	"gitpoold/tenants"
 )
 
@@ -27,7 +28,7 @@ func (s stopped) Write([]byte) (int, error) {
 func TestReadersOfRefsThatStop(t *testing.T) {
 	c, commit, _ := nestedRepository(1)
 	for at := 0; at < 5_000; at++ {
-		c.hold(c.add(tenants.Tag, fmt.Sprintf("object %v\ntype commit\ntag m%d\n\nm\n", commit, at)))
+		c.hold(c.add(plumbing.Tag, fmt.Sprintf("object %v\ntype commit\ntag m%d\n\nm\n", commit, at)))
 	}
 	branches := make([]tenants.Ref, 20_000)
 	for at := range branches {
@@ -73,7 +74,7 @@ func TestListsOfRefsAreCounted(t *testing.T) {
 			b.most = endBytes - 1
 		}
 		var out bytes.Buffer
-		err := Advertise(tenants.Counted(context.Background(), b), c, pktline.NewWriter(&out), 0)
+		err := Advertise(plumbing.Counted(context.Background(), b), c, pktline.NewWriter(&out), 0)
 		if (err != nil) != isRefused || out.Len() == 0 != isRefused {
 			t.Errorf("%v: %v, %q", b, err, out.Bytes())
 		}

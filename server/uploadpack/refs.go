@@ -8,18 +8,16 @@ import (
 	"sort"
 	"strings"
 
+	"gitpoold/packcache"
 	"gitpoold/pktline"
+	"gitpoold/plumbing"
 	"gitpoold/tenants"
-	"gitpoold/walk"
 )
 
 // Repository is what a fetch asks of a tenant.
 type Repository interface {
-	walk.Source
-	Name() string
-	Has(context.Context, []tenants.Name) ([]bool, error)
-	Refs(context.Context) (refs []tenants.Ref, head string, err error)
-	Entries(ctx context.Context, objects tenants.Listing, use func(entries []byte) error) error
+	packcache.Repository
+	Has(context.Context, []plumbing.Name) ([]bool, error)
 }
 
 // Agent is how the server calls itself to clients.
@@ -28,7 +26,6 @@ const Agent = "agent=gitpoold"
 const (
 	firstCapabilities = "multi_ack multi_ack_detailed no-done side-band side-band-64k ofs-delta thin-pack shallow deepen-since deepen-not" +
 		" deepen-relative filter include-tag no-progress allow-tip-sha1-in-want allow-reachable-sha1-in-want object-format=sha1 " + Agent
-	tagRefs = "refs/tags/"
 )
 
 // Advertise writes what stands before the first request: refs and capabilities, or with protocol 2 the capabilities alone. Where it fails before it
@@ -63,30 +60,30 @@ func AdvertiseRefs(out *pktline.Writer, refs []tenants.Ref, capabilities string)
 }
 
 // advertise writes parts of a list of refs. A tag's line is followed by what the tag is of, if chains has it.
-func advertise(out *pktline.Writer, parts [][]tenants.Ref, capabilities string, chains map[tenants.Name]Chain) {
+func advertise(out *pktline.Writer, parts [][]tenants.Ref, capabilities string, chains map[plumbing.Name]Chain) {
 	tail := "\x00" + capabilities
 	for _, refs := range parts {
 		for _, ref := range refs {
 			out.Line("%v %s%s", ref.Target, ref.Name, tail)
-			if chain := chains[ref.Target]; chain.Tags > 0 && strings.HasPrefix(ref.Name, tagRefs) {
+			if chain := chains[ref.Target]; chain.Tags > 0 && strings.HasPrefix(ref.Name, plumbing.Tags) {
 				out.Line("%v %s^{}", chain.Peeled, ref.Name)
 			}
 			tail = ""
 		}
 	}
 	if tail != "" {
-		out.Line("%v capabilities^{}%s", tenants.Name{}, tail)
+		out.Line("%v capabilities^{}%s", plumbing.Name{}, tail)
 	}
 	out.FlushPacket()
 }
 
-func targetOf(refs []tenants.Ref, name string) (tenants.Name, bool) {
+func targetOf(refs []tenants.Ref, name string) (plumbing.Name, bool) {
 	for _, ref := range refs {
 		if ref.Name == name {
 			return ref.Target, true
 		}
 	}
-	return tenants.Name{}, false
+	return plumbing.Name{}, false
 }
 
 // listing is a request ls-refs.
@@ -123,7 +120,7 @@ func (l listing) serve(ctx context.Context, t Repository, out *pktline.Writer) e
 		return err
 	}
 	selected := l.selected(refs)
-	var chains map[tenants.Name]Chain
+	var chains map[plumbing.Name]Chain
 	if l.peel {
 		if chains, err = chainsOf(ctx, t, refs, selected...); err != nil {
 			return err
@@ -133,7 +130,7 @@ func (l listing) serve(ctx context.Context, t Repository, out *pktline.Writer) e
 	for _, part := range selected {
 		for _, ref := range part {
 			tail := ""
-			if chain := chains[ref.Target]; chain.Tags > 0 && strings.HasPrefix(ref.Name, tagRefs) {
+			if chain := chains[ref.Target]; chain.Tags > 0 && strings.HasPrefix(ref.Name, plumbing.Tags) {
 				tail = fmt.Sprintf(" peeled:%v", chain.Peeled)
 			}
 			out.Line("%v %s%s", ref.Target, ref.Name, tail)

@@ -10,14 +10,15 @@ import (
 
 	"gitpoold/packcache"
 	"gitpoold/pktline"
+	"gitpoold/plumbing"
 	"gitpoold/tenants"
 	"gitpoold/walk"
 )
 
 // request is what a client asks of one fetch, in either protocol.
 type request struct {
-	wants, haves []tenants.Name
-	shallow      []tenants.Name
+	wants, haves []plumbing.Name
+	shallow      []plumbing.Name
 	deepening    walk.Deepening
 	notRefs      []string
 	filter       walk.Filter
@@ -57,7 +58,7 @@ func (q *request) argument(line string) error {
 
 func (q *request) name(word, value string) error {
 	digits, capabilities, _ := strings.Cut(value, " ")
-	name, ok := tenants.ParseName(digits)
+	name, ok := plumbing.ParseName(digits)
 	if !ok {
 		return refused("upload-pack: malformed %s line", word)
 	}
@@ -125,27 +126,18 @@ func (q *request) check(ctx context.Context, t Repository) error {
 	return q.expand(ctx, t)
 }
 
-func distinct(names []tenants.Name) []tenants.Name { return unseen(names, map[tenants.Name]bool{}) }
-
-// unseen gives the names that were not seen, and marks them.
-func unseen(names []tenants.Name, seen map[tenants.Name]bool) (fresh []tenants.Name) {
-	for _, name := range names {
-		if !seen[name] {
-			seen[name] = true
-			fresh = append(fresh, name)
-		}
-	}
-	return fresh
+func distinct(names []plumbing.Name) []plumbing.Name {
+	return plumbing.Unseen(names, map[plumbing.Name]bool{})
 }
 
 // commitsOf gives the commits that names lead to, each once: what the tenant has not, and trees and blobs, are left out.
-func commitsOf(ctx context.Context, t Repository, names []tenants.Name) ([]tenants.Name, error) {
-	return follow(ctx, t, names, map[tenants.Name]bool{})
+func commitsOf(ctx context.Context, t Repository, names []plumbing.Name) ([]plumbing.Name, error) {
+	return follow(ctx, t, names, map[plumbing.Name]bool{})
 }
 
 // follow gives those that were not seen of the commits that names lead to, and marks what it comes to as seen. Tags alone are read.
-func follow(ctx context.Context, t Repository, names []tenants.Name, seen map[tenants.Name]bool) (commits []tenants.Name, err error) {
-	for names = unseen(names, seen); len(names) > 0; {
+func follow(ctx context.Context, t Repository, names []plumbing.Name, seen map[plumbing.Name]bool) (commits []plumbing.Name, err error) {
+	for names = plumbing.Unseen(names, seen); len(names) > 0; {
 		tags, others, err := t.Tags(ctx, names)
 		if err != nil {
 			return nil, err
@@ -155,8 +147,8 @@ func follow(ctx context.Context, t Repository, names []tenants.Name, seen map[te
 			return nil, err
 		}
 		commits = append(commits, found...)
-		var after []tenants.Name
-		err = t.Objects(ctx, tags, func(o tenants.Object) error {
+		var after []plumbing.Name
+		err = t.Objects(ctx, tags, func(o plumbing.Object) error {
 			if target, is := tagged(o); is {
 				after = append(after, target)
 			}
@@ -165,12 +157,12 @@ func follow(ctx context.Context, t Repository, names []tenants.Name, seen map[te
 		if err != nil {
 			return nil, err
 		}
-		names = unseen(after, seen)
+		names = plumbing.Unseen(after, seen)
 	}
 	return commits, nil
 }
 
-func held(ctx context.Context, t Repository, names []tenants.Name) (found []tenants.Name, err error) {
+func held(ctx context.Context, t Repository, names []plumbing.Name) (found []plumbing.Name, err error) {
 	if len(names) == 0 {
 		return nil, nil
 	}
@@ -195,11 +187,11 @@ func (q *request) expand(ctx context.Context, t Repository) error {
 	if err != nil {
 		return err
 	}
-	byName := make(map[string]tenants.Name, len(refs))
+	byName := make(map[string]plumbing.Name, len(refs))
 	for _, ref := range refs {
 		byName[ref.Name] = ref.Target
 	}
-	var targets []tenants.Name
+	var targets []plumbing.Name
 	for _, name := range q.notRefs {
 		target, isOne := named(byName, name)
 		if !isOne {
@@ -212,9 +204,9 @@ func (q *request) expand(ctx context.Context, t Repository) error {
 }
 
 // named finds the one ref that a user calls so.
-func named(refs map[string]tenants.Name, name string) (target tenants.Name, isOne bool) {
+func named(refs map[string]plumbing.Name, name string) (target plumbing.Name, isOne bool) {
 	count := 0
-	for _, front := range []string{"", "refs/", "refs/tags/", "refs/heads/", "refs/remotes/"} {
+	for _, front := range []string{"", "refs/", plumbing.Tags, plumbing.Branches, "refs/remotes/"} {
 		if found, is := refs[front+name]; is {
 			target, count = found, count+1
 		}

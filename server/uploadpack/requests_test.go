@@ -13,31 +13,31 @@ import (
 	"testing"
 	"time"
 
-	"gitpoold/objects"
 	"gitpoold/pack"
 	"gitpoold/pktline"
+	"gitpoold/plumbing"
 	"gitpoold/tenants"
 )
 
 // memoryRepository has objects and refs in memory.
 type memoryRepository struct {
-	objects map[tenants.Name]tenants.Object
+	objects map[plumbing.Name]plumbing.Object
 	refs    []tenants.Ref
 	head    string
 	name    string
 }
 
-func (m *memoryRepository) add(kind tenants.Kind, contents string) tenants.Name {
+func (m *memoryRepository) add(kind plumbing.Kind, contents string) plumbing.Name {
 	name := pack.NameOf(kind, []byte(contents))
-	m.objects[name] = tenants.Object{Name: name, Kind: kind, Contents: []byte(contents)}
+	m.objects[name] = plumbing.Object{Name: name, Kind: kind, Contents: []byte(contents)}
 	return name
 }
 
-func (m *memoryRepository) Objects(_ context.Context, names []tenants.Name, use func(tenants.Object) error) error {
+func (m *memoryRepository) Objects(_ context.Context, names []plumbing.Name, use func(plumbing.Object) error) error {
 	for _, name := range names {
 		o, is := m.objects[name]
 		if !is {
-			return tenants.ErrMissing
+			return plumbing.ErrMissing
 		}
 		if err := use(o); err != nil {
 			return err
@@ -46,30 +46,30 @@ func (m *memoryRepository) Objects(_ context.Context, names []tenants.Name, use 
 	return nil
 }
 
-func (m *memoryRepository) Log(_ context.Context, revisions string) (names []tenants.Name, err error) {
-	seen := map[tenants.Name]bool{}
+func (m *memoryRepository) Log(_ context.Context, revisions string) (names []plumbing.Name, err error) {
+	seen := map[plumbing.Name]bool{}
 	out, from, isRange := strings.Cut(revisions, "..")
 	if !isRange {
 		out, from = "", out
 	}
-	var walk func(text string, use func(tenants.Name))
-	walk = func(text string, use func(tenants.Name)) {
-		name, _ := tenants.ParseName(text)
+	var walk func(text string, use func(plumbing.Name))
+	walk = func(text string, use func(plumbing.Name)) {
+		name, _ := plumbing.ParseName(text)
 		if text == "" || seen[name] {
 			return
 		}
 		seen[name] = true
 		use(name)
-		for _, parent := range objects.ReadHead(m.objects[name].Contents).Parents {
+		for _, parent := range plumbing.ReadHead(m.objects[name].Contents).Parents {
 			walk(parent.String(), use)
 		}
 	}
-	walk(out, func(tenants.Name) {})
-	walk(from, func(name tenants.Name) { names = append(names, name) })
+	walk(out, func(plumbing.Name) {})
+	walk(from, func(name plumbing.Name) { names = append(names, name) })
 	return names, nil
 }
 
-func (m *memoryRepository) Has(_ context.Context, names []tenants.Name) (has []bool, err error) {
+func (m *memoryRepository) Has(_ context.Context, names []plumbing.Name) (has []bool, err error) {
 	for _, name := range names {
 		_, is := m.objects[name]
 		has = append(has, is)
@@ -79,18 +79,18 @@ func (m *memoryRepository) Has(_ context.Context, names []tenants.Name) (has []b
 
 func (m *memoryRepository) Name() string { return m.name }
 
-func (m *memoryRepository) Tags(_ context.Context, names []tenants.Name) (tags, others []tenants.Name, err error) {
-	tags, others = m.parted(tenants.Tag, names)
+func (m *memoryRepository) Tags(_ context.Context, names []plumbing.Name) (tags, others []plumbing.Name, err error) {
+	tags, others = m.parted(plumbing.Tag, names)
 	return tags, others, nil
 }
 
-func (m *memoryRepository) Commits(_ context.Context, names []tenants.Name) (commits, others []tenants.Name, err error) {
-	commits, others = m.parted(tenants.Commit, names)
+func (m *memoryRepository) Commits(_ context.Context, names []plumbing.Name) (commits, others []plumbing.Name, err error) {
+	commits, others = m.parted(plumbing.Commit, names)
 	return commits, others, nil
 }
 
 // parted parts names into those of objects of a kind and the others.
-func (m *memoryRepository) parted(kind tenants.Kind, names []tenants.Name) (found, others []tenants.Name) {
+func (m *memoryRepository) parted(kind plumbing.Kind, names []plumbing.Name) (found, others []plumbing.Name) {
 	for _, name := range names {
 		if m.objects[name].Kind == kind {
 			found = append(found, name)
@@ -106,16 +106,16 @@ func (m *memoryRepository) Refs(context.Context) ([]tenants.Ref, string, error) 
 }
 
 // references are the objects that an object refers to.
-func references(o tenants.Object) (names []tenants.Name) {
+func references(o plumbing.Object) (names []plumbing.Name) {
 	switch o.Kind {
-	case tenants.Commit:
-		head := objects.ReadHead(o.Contents)
-		return append([]tenants.Name{head.Tree}, head.Parents...)
-	case tenants.Tag:
-		target, _ := objects.Tagged(o.Contents)
-		return []tenants.Name{target}
-	case tenants.Tree:
-		for entry, rest, ok := objects.NextEntry(o.Contents); ok; entry, rest, ok = objects.NextEntry(rest) {
+	case plumbing.Commit:
+		head := plumbing.ReadHead(o.Contents)
+		return append([]plumbing.Name{head.Tree}, head.Parents...)
+	case plumbing.Tag:
+		target, _ := plumbing.Tagged(o.Contents)
+		return []plumbing.Name{target}
+	case plumbing.Tree:
+		for entry, rest, ok := plumbing.NextEntry(string(o.Contents)); ok; entry, rest, ok = plumbing.NextEntry(rest) {
 			names = append(names, entry.Name)
 		}
 	}
@@ -123,10 +123,10 @@ func references(o tenants.Object) (names []tenants.Name) {
 }
 
 // Missing lists what the wants reach and the haves do not, as the service does.
-func (m *memoryRepository) Missing(_ context.Context, wants, haves []tenants.Name) (found tenants.Listing, err error) {
-	seen := map[tenants.Name]bool{}
-	var walk func(name tenants.Name, use func(tenants.Object))
-	walk = func(name tenants.Name, use func(tenants.Object)) {
+func (m *memoryRepository) Missing(_ context.Context, wants, haves []plumbing.Name) (found plumbing.Listing, err error) {
+	seen := map[plumbing.Name]bool{}
+	var walk func(name plumbing.Name, use func(plumbing.Object))
+	walk = func(name plumbing.Name, use func(plumbing.Object)) {
 		o, is := m.objects[name]
 		if seen[name] || !is {
 			return
@@ -138,24 +138,24 @@ func (m *memoryRepository) Missing(_ context.Context, wants, haves []tenants.Nam
 		use(o)
 	}
 	for _, name := range haves {
-		walk(name, func(tenants.Object) {})
+		walk(name, func(plumbing.Object) {})
 	}
 	for _, name := range wants {
 		if _, is := m.objects[name]; !is {
-			return nil, tenants.ErrMissing
+			return nil, plumbing.ErrMissing
 		}
-		walk(name, func(o tenants.Object) { found = found.With(o.Name, o.Kind, uint64(len(o.Contents))) })
+		walk(name, func(o plumbing.Object) { found = found.With(o.Name, o.Kind, uint64(len(o.Contents))) })
 	}
 	return found, nil
 }
 
 // Entries gives entries of a pack, one at a time.
-func (m *memoryRepository) Entries(_ context.Context, listing tenants.Listing, use func([]byte) error) error {
+func (m *memoryRepository) Entries(_ context.Context, listing plumbing.Listing, use func([]byte) error) error {
 	deflater, _ := zlib.NewWriterLevel(nil, zlib.NoCompression)
 	for at := 0; at < listing.Len(); at++ {
 		o, is := m.objects[listing.Name(at)]
 		if !is || o.Kind != listing.Kind(at) || uint64(len(o.Contents)) != listing.Size(at) {
-			return tenants.ErrMissing
+			return plumbing.ErrMissing
 		}
 		entry := bytes.NewBuffer([]byte{byte(o.Kind)<<4 | byte(len(o.Contents)&15)})
 		if rest := len(o.Contents) >> 4; rest > 0 {
@@ -173,18 +173,18 @@ func (m *memoryRepository) Entries(_ context.Context, listing tenants.Listing, u
 }
 
 // smallRepository has a history of some commits, and a tag.
-func smallRepository() (*memoryRepository, []tenants.Name) {
-	m := &memoryRepository{objects: map[tenants.Name]tenants.Object{}, head: "refs/heads/main"}
-	var commits []tenants.Name
+func smallRepository() (*memoryRepository, []plumbing.Name) {
+	m := &memoryRepository{objects: map[plumbing.Name]plumbing.Object{}, head: "refs/heads/main"}
+	var commits []plumbing.Name
 	parent := ""
 	for at := 0; at < 5; at++ {
-		blob := m.add(tenants.Blob, fmt.Sprintf("blob %d\n", at))
-		tree := m.add(tenants.Tree, "100644 f\x00"+string(blob[:]))
+		blob := m.add(plumbing.Blob, fmt.Sprintf("blob %d\n", at))
+		tree := m.add(plumbing.Tree, "100644 f\x00"+string(blob[:]))
 		who := fmt.Sprintf("A <a@b> %d +0000", 1000+at)
-		commits = append(commits, m.add(tenants.Commit, fmt.Sprintf("tree %v\n%sauthor %s\ncommitter %s\n\nm\n", tree, parent, who, who)))
+		commits = append(commits, m.add(plumbing.Commit, fmt.Sprintf("tree %v\n%sauthor %s\ncommitter %s\n\nm\n", tree, parent, who, who)))
 		parent = fmt.Sprintf("parent %v\n", commits[at])
 	}
-	tag := m.add(tenants.Tag, fmt.Sprintf("object %v\ntype commit\ntag v\n\nm\n", commits[2]))
+	tag := m.add(plumbing.Tag, fmt.Sprintf("object %v\ntype commit\ntag v\n\nm\n", commits[2]))
 	m.refs = []tenants.Ref{{Name: "refs/heads/main", Target: commits[4]}, {Name: "refs/tags/v", Target: tag}}
 	return m, commits
 }
@@ -255,7 +255,7 @@ func TestAnswersOfTheFirstProtocols(t *testing.T) {
 			continue
 		}
 		got := 0
-		_ = packIn(t, answer).Each(tenants.Commit, func(int) error { got++; return nil })
+		_ = packIn(t, answer).Each(plumbing.Commit, func(int) error { got++; return nil })
 		if got != it.commits {
 			t.Errorf("%s: %d commits", what, got)
 		}
@@ -337,14 +337,14 @@ func spoken(m *memoryRepository, session []byte) []byte {
 }
 
 // longRepository has a history of so many commits, the oldest first.
-func longRepository(count int) (*memoryRepository, []tenants.Name) {
-	m := &memoryRepository{objects: map[tenants.Name]tenants.Object{}, head: "refs/heads/main"}
-	tree := m.add(tenants.Tree, "")
-	var commits []tenants.Name
+func longRepository(count int) (*memoryRepository, []plumbing.Name) {
+	m := &memoryRepository{objects: map[plumbing.Name]plumbing.Object{}, head: "refs/heads/main"}
+	tree := m.add(plumbing.Tree, "")
+	var commits []plumbing.Name
 	parent := ""
 	for at := 0; at < count; at++ {
 		who := fmt.Sprintf("A <a@b> %d +0000", 1000+at)
-		commits = append(commits, m.add(tenants.Commit, fmt.Sprintf("tree %v\n%sauthor %s\ncommitter %s\n\nm\n", tree, parent, who, who)))
+		commits = append(commits, m.add(plumbing.Commit, fmt.Sprintf("tree %v\n%sauthor %s\ncommitter %s\n\nm\n", tree, parent, who, who)))
 		parent = fmt.Sprintf("parent %v\n", commits[at])
 	}
 	m.refs = []tenants.Ref{{Name: "refs/heads/main", Target: commits[count-1]}}
@@ -365,7 +365,7 @@ func allocated(call func()) uint64 {
 func TestRoundsOfANegotiationAddUp(t *testing.T) {
 	m, commits := longRepository(2000)
 	who := "A <a@b> 5000 +0000"
-	apart := m.add(tenants.Commit, fmt.Sprintf("tree %v\nauthor %s\ncommitter %s\n\nm\n", m.add(tenants.Tree, ""), who, who))
+	apart := m.add(plumbing.Commit, fmt.Sprintf("tree %v\nauthor %s\ncommitter %s\n\nm\n", m.add(plumbing.Tree, ""), who, who))
 	request := lines(fmt.Sprintf("want %v multi_ack_detailed\n", apart), "")
 	for _, name := range commits {
 		request = append(request, lines(fmt.Sprintf("have %v\n", name), "")...)
@@ -427,14 +427,14 @@ func TestCommitsThatAreWalkedAreCounted(t *testing.T) {
 
 // TestSetsOfNamesAreCounted has 1,000 files, which a filter looks for by their depth, or which a client lists that wants one of them by its name too.
 func TestSetsOfNamesAreCounted(t *testing.T) {
-	m := &memoryRepository{objects: map[tenants.Name]tenants.Object{}, head: "refs/heads/main"}
-	tree, last := "", tenants.Name{}
+	m := &memoryRepository{objects: map[plumbing.Name]plumbing.Object{}, head: "refs/heads/main"}
+	tree, last := "", plumbing.Name{}
 	for at := 0; at < 1000; at++ {
-		last = m.add(tenants.Blob, fmt.Sprint(at))
+		last = m.add(plumbing.Blob, fmt.Sprint(at))
 		tree += fmt.Sprintf("100644 f%04d\x00%s", at, last[:])
 	}
-	parent := m.add(tenants.Commit, fmt.Sprintf("tree %v\ncommitter A <a@b> 1 +0000\n\nm\n", m.add(tenants.Tree, "")))
-	commit := m.add(tenants.Commit, fmt.Sprintf("tree %v\nparent %v\ncommitter A <a@b> 2 +0000\n\nm\n", m.add(tenants.Tree, tree), parent))
+	parent := m.add(plumbing.Commit, fmt.Sprintf("tree %v\ncommitter A <a@b> 1 +0000\n\nm\n", m.add(plumbing.Tree, "")))
+	commit := m.add(plumbing.Commit, fmt.Sprintf("tree %v\nparent %v\ncommitter A <a@b> 2 +0000\n\nm\n", m.add(plumbing.Tree, tree), parent))
 	want := fmt.Sprintf("want %v\n", commit)
 	for what, request := range map[string][]byte{
 		"depth": lines("command=fetch\n", "|", want, "filter tree:2\n", "done\n", ""),

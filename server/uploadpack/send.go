@@ -5,19 +5,18 @@ import (
 	"fmt"
 	"io"
 
-	"gitpoold/objects"
 	"gitpoold/pack"
 	"gitpoold/packcache"
 	"gitpoold/pktline"
-	"gitpoold/tenants"
+	"gitpoold/plumbing"
 	"gitpoold/walk"
 )
 
-func tagged(o tenants.Object) (tenants.Name, bool) {
-	if o.Kind != tenants.Tag {
-		return tenants.Name{}, false
+func tagged(o plumbing.Object) (plumbing.Name, bool) {
+	if o.Kind != plumbing.Tag {
+		return plumbing.Name{}, false
 	}
-	return objects.Tagged(o.Contents)
+	return plumbing.Tagged(o.Contents)
 }
 
 // fetch is one fetch on its way: a request that was checked.
@@ -28,9 +27,9 @@ type fetch struct {
 	history  *walk.History
 	out      *pktline.Writer
 	boundary walk.Boundary
-	tips     []tenants.Name // the commits that the wants lead to, once they were asked for
+	tips     []plumbing.Name // the commits that the wants lead to, once they were asked for
 	hasTips  bool
-	common   []tenants.Name // the commits that both sides have
+	common   []plumbing.Name // the commits that both sides have
 }
 
 // begin checks a request.
@@ -167,7 +166,7 @@ func (f *fetch) sendKept(ctx context.Context, q walk.Request, data, progress io.
 }
 
 // write writes one pack of the entries of a kept one, if it is not nil, and of objects that it lacks.
-func (f *fetch) write(ctx context.Context, kept *packcache.Pack, listing tenants.Listing, data, progress io.Writer) error {
+func (f *fetch) write(ctx context.Context, kept *packcache.Pack, listing plumbing.Listing, data, progress io.Writer) error {
 	reused, count := 0, listing.Len()
 	if kept != nil {
 		reused = kept.Kept()
@@ -200,7 +199,7 @@ func (f *fetch) write(ctx context.Context, kept *packcache.Pack, listing tenants
 const followBytes = 256
 
 // following gives the tags that may follow what is sent. The list of refs is held no longer than that takes.
-func (f *fetch) following(ctx context.Context) (map[tenants.Name]tenants.Name, error) {
+func (f *fetch) following(ctx context.Context) (map[plumbing.Name]plumbing.Name, error) {
 	listing, free := f.counted(ctx)
 	defer free()
 	refs, _, err := f.t.Refs(listing)
@@ -209,7 +208,7 @@ func (f *fetch) following(ctx context.Context) (map[tenants.Name]tenants.Name, e
 	}
 	tags, err := tagsOf(listing, f.t, refs)
 	if err == nil {
-		err = tenants.Hold(ctx, followBytes*int64(len(tags)))
+		err = plumbing.Hold(ctx, followBytes*int64(len(tags)))
 	}
 	return tags, err
 }

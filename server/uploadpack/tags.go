@@ -5,42 +5,43 @@ import (
 	"strings"
 	"sync"
 
+	"gitpoold/plumbing"
 	"gitpoold/tenants"
 )
 
 // Chain is where a name leads: a tag to its target, and over so many tags, itself among them, to what the last one is of. What is no tag
 // leads to itself, over none.
 type Chain struct {
-	Target, Peeled tenants.Name
+	Target, Peeled plumbing.Name
 	Tags           int
 }
 
 // tagEnds are the chains of names that a tenant's refs under refs/tags/ held. Requests share them, and nobody changes them.
-type tagEnds struct{ chains map[tenants.Name]Chain }
+type tagEnds struct{ chains map[plumbing.Name]Chain }
 
 // endBytes is what is counted for each of them.
 const endBytes = 128
 
 // chainsOf gives the annotated tags that parts of a tenant's refs hold, by their names. It may give others too.
-func chainsOf(ctx context.Context, t Repository, refs []tenants.Ref, parts ...[]tenants.Ref) (map[tenants.Name]Chain, error) {
+func chainsOf(ctx context.Context, t Repository, refs []tenants.Ref, parts ...[]tenants.Ref) (map[plumbing.Name]Chain, error) {
 	ends := remembered.of(t.Name())
 	if unknown := ends.unknown(parts); len(unknown) > 0 {
-		r := reading{known: ends.chains, read: map[tenants.Name]Chain{}}
+		r := reading{known: ends.chains, read: map[plumbing.Name]Chain{}}
 		if err := r.follow(ctx, t, unknown); err != nil {
 			return nil, err
 		}
 		ends = r.held(refs)
 		remembered.put(t.Name(), ends)
 	}
-	return ends.chains, tenants.Share(ctx, ends, endBytes*int64(len(ends.chains)))
+	return ends.chains, plumbing.Share(ctx, ends, endBytes*int64(len(ends.chains)))
 }
 
 // unknown gives the targets under refs/tags/ that have no chain here, once each.
-func (e *tagEnds) unknown(parts [][]tenants.Ref) (names []tenants.Name) {
-	isAsked := map[tenants.Name]bool{}
+func (e *tagEnds) unknown(parts [][]tenants.Ref) (names []plumbing.Name) {
+	isAsked := map[plumbing.Name]bool{}
 	for _, refs := range parts {
 		for _, ref := range refs {
-			if _, is := e.chains[ref.Target]; is || !strings.HasPrefix(ref.Name, tagRefs) || isAsked[ref.Target] {
+			if _, is := e.chains[ref.Target]; is || !strings.HasPrefix(ref.Name, plumbing.Tags) || isAsked[ref.Target] {
 				continue
 			}
 			isAsked[ref.Target] = true
@@ -52,10 +53,10 @@ func (e *tagEnds) unknown(parts [][]tenants.Ref) (names []tenants.Name) {
 
 // reading has the chains that were read for one request, beside those that were known before.
 type reading struct {
-	known, read map[tenants.Name]Chain
+	known, read map[plumbing.Name]Chain
 }
 
-func (r reading) get(name tenants.Name) (Chain, bool) {
+func (r reading) get(name plumbing.Name) (Chain, bool) {
 	chain, is := r.read[name]
 	if !is {
 		chain, is = r.known[name]
@@ -65,8 +66,8 @@ func (r reading) get(name tenants.Name) (Chain, bool) {
 
 // follow follows names whose chains it has not, all of them a step at a time, and no object twice: chains may meet, and a tag on the way of one may
 // begin another. What is found on the way is kept too.
-func (r reading) follow(ctx context.Context, t Repository, names []tenants.Name) error {
-	targets := map[tenants.Name]tenants.Name{}
+func (r reading) follow(ctx context.Context, t Repository, names []plumbing.Name) error {
+	targets := map[plumbing.Name]plumbing.Name{}
 	for _, name := range names {
 		targets[name] = name
 	}
@@ -89,8 +90,10 @@ func (r reading) follow(ctx context.Context, t Repository, names []tenants.Name)
 }
 
 // step reads tags, and gives what these lead to and nothing else has led to before.
-func (r reading) step(ctx context.Context, t Repository, tags []tenants.Name, targets map[tenants.Name]tenants.Name) (after []tenants.Name, err error) {
-	err = t.Objects(ctx, tags, func(o tenants.Object) error {
+func (r reading) step(
+	ctx context.Context, t Repository, tags []plumbing.Name, targets map[plumbing.Name]plumbing.Name,
+) (after []plumbing.Name, err error) {
+	err = t.Objects(ctx, tags, func(o plumbing.Object) error {
 		target, is := tagged(o)
 		if !is {
 			r.read[o.Name] = Chain{Target: o.Name, Peeled: o.Name}
@@ -108,8 +111,8 @@ func (r reading) step(ctx context.Context, t Repository, tags []tenants.Name, ta
 }
 
 // findEnd goes from a name to one whose chain is found, and then keeps the chains of all names on the way. So no way is gone twice.
-func (r reading) findEnd(name tenants.Name, targets map[tenants.Name]tenants.Name) {
-	var way []tenants.Name
+func (r reading) findEnd(name plumbing.Name, targets map[plumbing.Name]plumbing.Name) {
+	var way []plumbing.Name
 	chain, isFound := r.get(name)
 	for ; !isFound; chain, isFound = r.get(name) {
 		way = append(way, name)
@@ -123,9 +126,9 @@ func (r reading) findEnd(name tenants.Name, targets map[tenants.Name]tenants.Nam
 
 // held gives the chains of what refs hold.
 func (r reading) held(refs []tenants.Ref) *tagEnds {
-	all := map[tenants.Name]Chain{}
+	all := map[plumbing.Name]Chain{}
 	for _, ref := range refs {
-		if chain, is := r.get(ref.Target); is && strings.HasPrefix(ref.Name, tagRefs) {
+		if chain, is := r.get(ref.Target); is && strings.HasPrefix(ref.Name, plumbing.Tags) {
 			all[ref.Target] = chain
 		}
 	}
@@ -140,18 +143,18 @@ const (
 )
 
 // tagsOf gives the tags of all chains of refs that are not too long, the first ones and those between, with what each leads to in the end.
-func tagsOf(ctx context.Context, t Repository, refs []tenants.Ref) (map[tenants.Name]tenants.Name, error) {
+func tagsOf(ctx context.Context, t Repository, refs []tenants.Ref) (map[plumbing.Name]plumbing.Name, error) {
 	chains, err := chainsOf(ctx, t, refs, refs)
 	if err != nil {
 		return nil, err
 	}
-	tags := map[tenants.Name]tenants.Name{}
-	var wave []tenants.Name
+	tags := map[plumbing.Name]plumbing.Name{}
+	var wave []plumbing.Name
 	between := 0
 	for _, ref := range refs {
 		chain := chains[ref.Target]
 		_, has := tags[ref.Target]
-		if has || !strings.HasPrefix(ref.Name, tagRefs) || chain.Tags == 0 || chain.Tags > mostNested || between+chain.Tags-1 > mostBetween {
+		if has || !strings.HasPrefix(ref.Name, plumbing.Tags) || chain.Tags == 0 || chain.Tags > mostNested || between+chain.Tags-1 > mostBetween {
 			continue
 		}
 		between += chain.Tags - 1
@@ -162,10 +165,10 @@ func tagsOf(ctx context.Context, t Repository, refs []tenants.Ref) (map[tenants.
 }
 
 // addBetween adds the tags that chains have after their first ones. Those that no ref holds are read, since they are not remembered.
-func addBetween(ctx context.Context, t Repository, wave []tenants.Name, chains map[tenants.Name]Chain, tags map[tenants.Name]tenants.Name) error {
-	r := reading{known: chains, read: map[tenants.Name]Chain{}}
+func addBetween(ctx context.Context, t Repository, wave []plumbing.Name, chains map[plumbing.Name]Chain, tags map[plumbing.Name]plumbing.Name) error {
+	r := reading{known: chains, read: map[plumbing.Name]Chain{}}
 	for len(wave) > 0 {
-		var after, unknown []tenants.Name
+		var after, unknown []plumbing.Name
 		for _, name := range wave {
 			chain, _ := r.get(name)
 			if _, has := tags[chain.Target]; has || chain.Tags == 1 {

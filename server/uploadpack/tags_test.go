@@ -11,6 +11,7 @@ import (
 	"testing"
 
 	"gitpoold/pktline"
+	"gitpoold/plumbing"
 	"gitpoold/tenants"
 )
 
@@ -20,18 +21,18 @@ type countingRepository struct {
 	asked int
 }
 
-func (c *countingRepository) Objects(ctx context.Context, names []tenants.Name, use func(tenants.Object) error) error {
+func (c *countingRepository) Objects(ctx context.Context, names []plumbing.Name, use func(plumbing.Object) error) error {
 	c.asked += len(names)
 	return c.memoryRepository.Objects(ctx, names, use)
 }
 
 // nestedRepository has a commit, a tag of it, a tag of that tag and so on. Nothing of it is remembered yet.
-func nestedRepository(count int) (c *countingRepository, commit tenants.Name, tags []tenants.Name) {
+func nestedRepository(count int) (c *countingRepository, commit plumbing.Name, tags []plumbing.Name) {
 	remembered = chainMemory{}
 	m, commits := longRepository(1)
 	target, kind := commits[0], "commit"
 	for at := 1; at <= count; at++ {
-		target = m.add(tenants.Tag, fmt.Sprintf("object %v\ntype %s\ntag n%d\n\nm\n", target, kind, at))
+		target = m.add(plumbing.Tag, fmt.Sprintf("object %v\ntype %s\ntag n%d\n\nm\n", target, kind, at))
 		kind = "tag"
 		tags = append(tags, target)
 	}
@@ -39,7 +40,7 @@ func nestedRepository(count int) (c *countingRepository, commit tenants.Name, ta
 }
 
 // hold lets a ref hold a tag.
-func (c *countingRepository) hold(tag tenants.Name) {
+func (c *countingRepository) hold(tag plumbing.Name) {
 	c.refs = append(c.refs, tenants.Ref{Name: fmt.Sprintf("refs/tags/t%05d", len(c.refs)), Target: tag})
 }
 
@@ -97,8 +98,8 @@ func TestNestedTagsAreReadOnce(t *testing.T) {
 // TestChainsMeet has a long chain of which two refs hold the last tag and one between, and a ref of a commit and one of the tag of a tag of its own.
 func TestChainsMeet(t *testing.T) {
 	c, commit, tags := nestedRepository(500)
-	apart := c.add(tenants.Tag, fmt.Sprintf("object %v\ntype tag\ntag apart\n\nm\n", tags[300]))
-	for _, name := range []tenants.Name{tags[499], tags[200], apart, commit, tags[499]} {
+	apart := c.add(plumbing.Tag, fmt.Sprintf("object %v\ntype tag\ntag apart\n\nm\n", tags[300]))
+	for _, name := range []plumbing.Name{tags[499], tags[200], apart, commit, tags[499]} {
 		c.hold(name)
 	}
 	for round := 0; round < 2; round++ {
@@ -113,14 +114,14 @@ func TestChainsMeet(t *testing.T) {
 }
 
 // fetched gives how many tags a fetch of a name has, with include-tag.
-func fetched(t *testing.T, c *countingRepository, want tenants.Name) (tags int) {
+func fetched(t *testing.T, c *countingRepository, want plumbing.Name) (tags int) {
 	t.Helper()
 	var out bytes.Buffer
 	request := bytes.NewReader(lines(fmt.Sprintf("want %v include-tag ofs-delta\n", want), "", "done\n"))
 	if err := (Server{}).Serve(context.Background(), c, bufio.NewReader(request), pktline.NewWriter(&out), 0, true); err != nil {
 		t.Fatal(err)
 	}
-	_ = packIn(t, out.Bytes()).Each(tenants.Tag, func(int) error { tags++; return nil })
+	_ = packIn(t, out.Bytes()).Each(plumbing.Tag, func(int) error { tags++; return nil })
 	return tags
 }
 
@@ -153,9 +154,9 @@ func TestFewNestedTagsFollow(t *testing.T) {
 	c, commit, tags := nestedRepository(mostNested - 1)
 	const chains = mostBetween / (mostNested - 1)
 	for at := 0; at < chains+100; at++ {
-		c.hold(c.add(tenants.Tag, fmt.Sprintf("object %v\ntype tag\ntag m%d\n\nm\n", tags[mostNested-2], at)))
+		c.hold(c.add(plumbing.Tag, fmt.Sprintf("object %v\ntype tag\ntag m%d\n\nm\n", tags[mostNested-2], at)))
 	}
-	c.hold(c.add(tenants.Tag, fmt.Sprintf("object %v\ntype commit\ntag last\n\nm\n", commit)))
+	c.hold(c.add(plumbing.Tag, fmt.Sprintf("object %v\ntype commit\ntag last\n\nm\n", commit)))
 	if got, want := fetched(t, c, commit), chains+len(tags)+1; got != want {
 		t.Errorf("%d tags follow, and not %d", got, want)
 	}
@@ -166,7 +167,7 @@ func TestWhatIsRememberedIsBounded(t *testing.T) {
 	c, commit, tags := nestedRepository(1000)
 	const refs = 2000
 	for at := 0; at < refs; at++ {
-		c.hold(c.add(tenants.Tag, fmt.Sprintf("object %v\ntype tag\ntag m%d\n\nm\n", tags[999], at)))
+		c.hold(c.add(plumbing.Tag, fmt.Sprintf("object %v\ntype tag\ntag m%d\n\nm\n", tags[999], at)))
 	}
 	before := heap()
 	advertised(t, c)
@@ -194,9 +195,9 @@ func TestWhatIsRememberedIsBounded(t *testing.T) {
 
 // ofNames has so many names that lead to the same.
 func ofNames(count uint32, chain Chain) *tagEnds {
-	ends := &tagEnds{map[tenants.Name]Chain{}}
+	ends := &tagEnds{map[plumbing.Name]Chain{}}
 	for at := uint32(0); at < count; at++ {
-		var name tenants.Name
+		var name plumbing.Name
 		binary.BigEndian.PutUint32(name[:], at)
 		ends.chains[name] = chain
 	}

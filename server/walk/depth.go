@@ -4,7 +4,7 @@ import (
 	"context"
 	"errors"
 
-	"gitpoold/tenants"
+	"gitpoold/plumbing"
 )
 
 // Infinite is the depth of `git fetch --unshallow`.
@@ -12,10 +12,10 @@ const Infinite = 0x7fffffff
 
 // Deepening says where a history is to end. At most one of the fields is set.
 type Deepening struct {
-	Depth      int            // generations from the wants, or beyond the client's own edge
-	IsRelative bool           // counted from the client's own edge
-	Since      int64          // no commit before this time
-	Not        []tenants.Name // nothing that these commits reach
+	Depth      int             // generations from the wants, or beyond the client's own edge
+	IsRelative bool            // counted from the client's own edge
+	Since      int64           // no commit before this time
+	Not        []plumbing.Name // nothing that these commits reach
 }
 
 // IsSet tells whether a client asked for any of it.
@@ -24,19 +24,19 @@ func (d Deepening) IsSet() bool { return d.Depth > 0 || d.Since > 0 || len(d.Not
 // Boundary is where a history ends for a client: commits whose parents it is not to have, and those of its own whose parents it
 // gets.
 type Boundary struct {
-	Shallow, Unshallow []tenants.Name
+	Shallow, Unshallow []plumbing.Name
 }
 
 // ErrNothingSelected says that a client asked for a history that has no commit.
 var ErrNothingSelected = errors.New("no commits selected for shallow requests")
 
 // Bound finds the boundary for a client that has the commits `was` without their parents. Its names are commits of the tenant.
-func (h *History) Bound(ctx context.Context, d Deepening, wants, was []tenants.Name) (Boundary, error) {
+func (h *History) Bound(ctx context.Context, d Deepening, wants, was []plumbing.Name) (Boundary, error) {
 	shallow, deep, err := h.bound(ctx, d, wants, was)
 	if err != nil {
 		return Boundary{}, err
 	}
-	isClients := map[tenants.Name]bool{}
+	isClients := map[plumbing.Name]bool{}
 	for _, name := range was {
 		isClients[name] = true
 	}
@@ -55,11 +55,11 @@ func (h *History) Bound(ctx context.Context, d Deepening, wants, was []tenants.N
 }
 
 // bound gives the commits at which the history ends, in order, and those whose parents belong to it.
-func (h *History) bound(ctx context.Context, d Deepening, wants, was []tenants.Name) ([]tenants.Name, map[tenants.Name]bool, error) {
+func (h *History) bound(ctx context.Context, d Deepening, wants, was []plumbing.Name) ([]plumbing.Name, map[plumbing.Name]bool, error) {
 	switch {
 	case d.Depth >= Infinite:
-		deep := map[tenants.Name]bool{}
-		unseen(was, deep)
+		deep := map[plumbing.Name]bool{}
+		plumbing.Unseen(was, deep)
 		return nil, deep, nil
 	case d.Depth > 0 && d.IsRelative:
 		reached, err := h.reachedOf(ctx, wants, was)
@@ -74,9 +74,9 @@ func (h *History) bound(ctx context.Context, d Deepening, wants, was []tenants.N
 }
 
 // atDepth goes from the heads down, a generation at a time.
-func (h *History) atDepth(ctx context.Context, heads []tenants.Name, most int) ([]tenants.Name, map[tenants.Name]bool, error) {
-	seen, deep := map[tenants.Name]bool{}, map[tenants.Name]bool{}
-	wave := unseen(heads, seen)
+func (h *History) atDepth(ctx context.Context, heads []plumbing.Name, most int) ([]plumbing.Name, map[plumbing.Name]bool, error) {
+	seen, deep := map[plumbing.Name]bool{}, map[plumbing.Name]bool{}
+	wave := plumbing.Unseen(heads, seen)
 	for depth := 1; len(wave) > 0; depth++ {
 		if err := h.Load(ctx, wave); err != nil {
 			return nil, nil, err
@@ -84,10 +84,10 @@ func (h *History) atDepth(ctx context.Context, heads []tenants.Name, most int) (
 		if depth == most {
 			return wave, deep, nil
 		}
-		var after []tenants.Name
+		var after []plumbing.Name
 		for _, name := range wave {
 			deep[name] = true
-			after = append(after, unseen(h.commits[name].Parents, seen)...)
+			after = append(after, plumbing.Unseen(h.commits[name].Parents, seen)...)
 		}
 		wave = after
 	}
@@ -95,18 +95,18 @@ func (h *History) atDepth(ctx context.Context, heads []tenants.Name, most int) (
 }
 
 // reachedOf gives those of the client's own edge that the wants reach.
-func (h *History) reachedOf(ctx context.Context, wants, was []tenants.Name) (reached []tenants.Name, err error) {
-	isClients, seen := map[tenants.Name]bool{}, map[tenants.Name]bool{}
-	unseen(was, isClients)
-	for wave := unseen(wants, seen); len(wave) > 0 && err == nil; {
-		var after []tenants.Name
+func (h *History) reachedOf(ctx context.Context, wants, was []plumbing.Name) (reached []plumbing.Name, err error) {
+	isClients, seen := map[plumbing.Name]bool{}, map[plumbing.Name]bool{}
+	plumbing.Unseen(was, isClients)
+	for wave := plumbing.Unseen(wants, seen); len(wave) > 0 && err == nil; {
+		var after []plumbing.Name
 		err = h.Load(ctx, wave)
 		for _, name := range wave {
 			if isClients[name] {
 				reached = append(reached, name)
 			}
 			if err == nil {
-				after = append(after, unseen(h.commits[name].Parents, seen)...)
+				after = append(after, plumbing.Unseen(h.commits[name].Parents, seen)...)
 			}
 		}
 		wave = after
@@ -115,14 +115,14 @@ func (h *History) reachedOf(ctx context.Context, wants, was []tenants.Name) (rea
 }
 
 // selected ends a history at a time, or at what other commits reach.
-func (h *History) selected(ctx context.Context, d Deepening, wants []tenants.Name) ([]tenants.Name, map[tenants.Name]bool, error) {
-	out := map[tenants.Name]bool{}
-	if err := h.each(ctx, d.Not, out, func(tenants.Name) bool { return true }); err != nil {
+func (h *History) selected(ctx context.Context, d Deepening, wants []plumbing.Name) ([]plumbing.Name, map[plumbing.Name]bool, error) {
+	out := map[plumbing.Name]bool{}
+	if err := h.each(ctx, d.Not, out, func(plumbing.Name) bool { return true }); err != nil {
 		return nil, nil, err
 	}
-	var order []tenants.Name
-	in := map[tenants.Name]bool{}
-	err := h.each(ctx, wants, map[tenants.Name]bool{}, func(name tenants.Name) bool {
+	var order []plumbing.Name
+	in := map[plumbing.Name]bool{}
+	err := h.each(ctx, wants, map[plumbing.Name]bool{}, func(name plumbing.Name) bool {
 		if out[name] || h.commits[name].Time < d.Since {
 			return false
 		}
@@ -144,7 +144,7 @@ func (h *History) selected(ctx context.Context, d Deepening, wants []tenants.Nam
 }
 
 // ends gives the commits that have a parent outside of a set.
-func (h *History) ends(order []tenants.Name, in map[tenants.Name]bool) (ends []tenants.Name) {
+func (h *History) ends(order []plumbing.Name, in map[plumbing.Name]bool) (ends []plumbing.Name) {
 	for _, name := range order {
 		for _, parent := range h.commits[name].Parents {
 			if !in[parent] {
@@ -157,15 +157,15 @@ func (h *History) ends(order []tenants.Name, in map[tenants.Name]bool) (ends []t
 }
 
 // each calls use with all commits that some reach; from one for which it gives false the walk does not go on.
-func (h *History) each(ctx context.Context, from []tenants.Name, seen map[tenants.Name]bool, use func(tenants.Name) bool) error {
-	for wave := unseen(from, seen); len(wave) > 0; {
+func (h *History) each(ctx context.Context, from []plumbing.Name, seen map[plumbing.Name]bool, use func(plumbing.Name) bool) error {
+	for wave := plumbing.Unseen(from, seen); len(wave) > 0; {
 		if err := h.Load(ctx, wave); err != nil {
 			return err
 		}
-		var after []tenants.Name
+		var after []plumbing.Name
 		for _, name := range wave {
 			if use(name) {
-				after = append(after, unseen(h.commits[name].Parents, seen)...)
+				after = append(after, plumbing.Unseen(h.commits[name].Parents, seen)...)
 			}
 		}
 		wave = after

@@ -21,7 +21,7 @@ var All = Filter{BlobBytes: math.MaxInt64, TreeDepth: math.MaxInt}
 
 // ParseFilter reads the word of a filter: blob:none, blob:limit=<n>[kmg], tree:<depth>, or several after combine:.
 func ParseFilter(text string) (Filter, error) {
-	if rest, is := cutFront(text, "combine:"); is {
+	if rest, is := strings.CutPrefix(text, "combine:"); is {
 		return parseCombined(rest)
 	}
 	f := All
@@ -44,11 +44,6 @@ func ParseFilter(text string) (Filter, error) {
 
 func notServed(text string) error {
 	return fmt.Errorf("filter '%s' not supported", pktline.Show([]byte(text)))
-}
-
-// cutFront is strings.CutPrefix, which Go 1.19 has not.
-func cutFront(text, front string) (string, bool) {
-	return strings.TrimPrefix(text, front), strings.HasPrefix(text, front)
 }
 
 const mostCombined = 16
@@ -74,13 +69,7 @@ func parseCombined(text string) (Filter, error) {
 }
 
 func (f Filter) and(other Filter) Filter {
-	if other.BlobBytes < f.BlobBytes {
-		f.BlobBytes = other.BlobBytes
-	}
-	if other.TreeDepth < f.TreeDepth {
-		f.TreeDepth = other.TreeDepth
-	}
-	return f
+	return Filter{min(f.BlobBytes, other.BlobBytes), min(f.TreeDepth, other.TreeDepth)}
 }
 
 // parseBytes reads a number with one of Git's units.

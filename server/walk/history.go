@@ -9,22 +9,22 @@ import (
 	"errors"
 	"fmt"
 
-	"gitpoold/objects"
-	"gitpoold/tenants"
+	"gitpoold/faults"
+	"gitpoold/plumbing"
 )
 
 // Source is what a walk asks: a tenant.
 type Source interface {
-	Objects(context.Context, []tenants.Name, func(tenants.Object) error) error
-	Tags(context.Context, []tenants.Name) (tags, others []tenants.Name, err error)
-	Commits(context.Context, []tenants.Name) (commits, others []tenants.Name, err error)
-	Log(context.Context, string) ([]tenants.Name, error)
-	Missing(ctx context.Context, wants, haves []tenants.Name) (tenants.Listing, error)
+	Objects(context.Context, []plumbing.Name, func(plumbing.Object) error) error
+	Tags(context.Context, []plumbing.Name) (tags, others []plumbing.Name, err error)
+	Commits(context.Context, []plumbing.Name) (commits, others []plumbing.Name, err error)
+	Log(context.Context, string) ([]plumbing.Name, error)
+	Missing(ctx context.Context, wants, haves []plumbing.Name) (plumbing.Listing, error)
 }
 
 // commit is a commit that has been read.
 type commit struct {
-	objects.Head
+	plumbing.Head
 	size  uint64
 	flags flags
 }
@@ -40,9 +40,9 @@ const (
 // History has the commits of one tenant that were read for one request.
 type History struct {
 	source  Source
-	commits map[tenants.Name]*commit
-	cuts    map[tenants.Name]bool
-	common  []tenants.Name
+	commits map[plumbing.Name]*commit
+	cuts    map[plumbing.Name]bool
+	common  []plumbing.Name
 	rounds  int
 	part    int   // of parts, how many were too long
 	tried   int   // commits that walks for ReachesAny came to
@@ -67,18 +67,18 @@ const (
 
 // NewHistory makes an empty one.
 func NewHistory(source Source) *History {
-	return &History{source: source, commits: map[tenants.Name]*commit{}, cuts: map[tenants.Name]bool{}}
+	return &History{source: source, commits: map[plumbing.Name]*commit{}, cuts: map[plumbing.Name]bool{}}
 }
 
 // Cut makes commits count as if they had no parents, as those of a shallow repository.
-func (h *History) Cut(names []tenants.Name) {
+func (h *History) Cut(names []plumbing.Name) {
 	for _, name := range names {
 		h.cuts[name] = true
 	}
 }
 
 // parents gives the parents of a commit that was read, as far as they count.
-func (h *History) parents(name tenants.Name) []tenants.Name {
+func (h *History) parents(name plumbing.Name) []plumbing.Name {
 	if h.cuts[name] {
 		return nil
 	}
@@ -86,7 +86,7 @@ func (h *History) parents(name tenants.Name) []tenants.Name {
 }
 
 // Load reads those of these commits that were not read yet.
-func (h *History) Load(ctx context.Context, names []tenants.Name) error {
+func (h *History) Load(ctx context.Context, names []plumbing.Name) error {
 	unread := h.unread(names)
 	if len(unread) == 0 {
 		return nil
@@ -102,8 +102,8 @@ func (h *History) Load(ctx context.Context, names []tenants.Name) error {
 	return h.read(ctx, unread)
 }
 
-func (h *History) unread(names []tenants.Name) (unread []tenants.Name) {
-	taken := map[tenants.Name]bool{}
+func (h *History) unread(names []plumbing.Name) (unread []plumbing.Name) {
+	taken := map[plumbing.Name]bool{}
 	for _, name := range names {
 		if h.commits[name] == nil && !taken[name] {
 			taken[name] = true
@@ -118,13 +118,13 @@ var parts = []int{0, 32768, 2048, 128}
 
 // loadRest reads all commits that one reaches and the client has not, as far as one of its commits tells; or the newest of them, where all are too many.
 // Where the messages of a few have long first lines, it reads none.
-func (h *History) loadRest(ctx context.Context, from tenants.Name) error {
+func (h *History) loadRest(ctx context.Context, from plumbing.Name) error {
 	for ; h.part < len(parts); h.part++ {
 		names, err := h.source.Log(ctx, h.revisions(from, parts[h.part]))
 		switch {
 		case err == nil:
 			return h.read(ctx, h.unread(names))
-		case err != (tenants.Fault{Number: 25}) && !(parts[h.part] > 0 && errors.Is(err, tenants.ErrMissing)):
+		case !errors.Is(err, faults.Fault(25)) && !(parts[h.part] > 0 && errors.Is(err, plumbing.ErrMissing)):
 			return err
 		}
 	}
@@ -132,7 +132,7 @@ func (h *History) loadRest(ctx context.Context, from tenants.Name) error {
 }
 
 // revisions is the range of what is asked for at once.
-func (h *History) revisions(from tenants.Name, back int) string {
+func (h *History) revisions(from plumbing.Name, back int) string {
 	switch {
 	case back > 0:
 		return fmt.Sprintf("%v~%d..%[1]v", from, back)
@@ -142,12 +142,12 @@ func (h *History) revisions(from tenants.Name, back int) string {
 	return from.String()
 }
 
-func (h *History) read(ctx context.Context, names []tenants.Name) error {
-	return h.source.Objects(ctx, names, func(o tenants.Object) error {
-		if o.Kind != tenants.Commit {
+func (h *History) read(ctx context.Context, names []plumbing.Name) error {
+	return h.source.Objects(ctx, names, func(o plumbing.Object) error {
+		if o.Kind != plumbing.Commit {
 			return fmt.Errorf("object %v is a %v where a commit has to be", o.Name, o.Kind)
 		}
-		head := objects.ReadHead(o.Contents)
+		head := plumbing.ReadHead(o.Contents)
 		h.commits[o.Name] = &commit{Head: head, size: uint64(len(o.Contents))}
 		return h.count(ctx, commitBytes+int64(len(o.Name)*len(head.Parents)))
 	})
@@ -159,7 +159,7 @@ func (h *History) count(ctx context.Context, bytes int64) error {
 		h.paid -= bytes
 		return nil
 	}
-	if err := tenants.Hold(ctx, bytes-h.paid+countedAtOnce); err != nil {
+	if err := plumbing.Hold(ctx, bytes-h.paid+countedAtOnce); err != nil {
 		return err
 	}
 	h.paid = countedAtOnce
@@ -167,10 +167,10 @@ func (h *History) count(ctx context.Context, bytes int64) error {
 }
 
 // trees gives the trees of commits that were read, once each.
-func (h *History) trees(names []tenants.Name) (trees []tenants.Name) {
-	seen := map[tenants.Name]bool{}
+func (h *History) trees(names []plumbing.Name) (trees []plumbing.Name) {
+	seen := map[plumbing.Name]bool{}
 	for _, name := range names {
-		trees = append(trees, unseen([]tenants.Name{h.commits[name].Tree}, seen)...)
+		trees = append(trees, plumbing.Unseen([]plumbing.Name{h.commits[name].Tree}, seen)...)
 	}
 	return trees
 }

@@ -4,13 +4,13 @@ import (
 	"container/heap"
 	"context"
 
-	"gitpoold/tenants"
+	"gitpoold/plumbing"
 )
 
 // frontier is a queue of commits, the newest first.
 type frontier struct {
 	h     *History
-	names []tenants.Name
+	names []plumbing.Name
 }
 
 func (f frontier) Len() int { return len(f.names) }
@@ -18,7 +18,7 @@ func (f frontier) Less(i, j int) bool {
 	return f.h.commits[f.names[i]].Time > f.h.commits[f.names[j]].Time
 }
 func (f frontier) Swap(i, j int)  { f.names[i], f.names[j] = f.names[j], f.names[i] }
-func (f *frontier) Push(name any) { f.names = append(f.names, name.(tenants.Name)) }
+func (f *frontier) Push(name any) { f.names = append(f.names, name.(plumbing.Name)) }
 func (f *frontier) Pop() any {
 	last := f.names[len(f.names)-1]
 	f.names = f.names[:len(f.names)-1]
@@ -30,7 +30,7 @@ type painting struct {
 	*History
 	queue  frontier
 	wanted int // commits of the queue that are not known
-	order  []tenants.Name
+	order  []plumbing.Name
 }
 
 // batch is how many commits are taken from the queue at once, so that their parents are asked for together.
@@ -38,7 +38,7 @@ const batch = 16
 
 // Paint gives the commits that the wants reach and the haves do not, from new to old, and the known commits at their edge. All
 // names have to be commits of the tenant.
-func (h *History) Paint(ctx context.Context, wants, haves []tenants.Name) (order, edges []tenants.Name, err error) {
+func (h *History) Paint(ctx context.Context, wants, haves []plumbing.Name) (order, edges []plumbing.Name, err error) {
 	h.common = haves
 	p := &painting{History: h, queue: frontier{h: h}}
 	if err := p.enter(ctx, haves, known); err != nil {
@@ -57,7 +57,7 @@ func (h *History) Paint(ctx context.Context, wants, haves []tenants.Name) (order
 }
 
 // enter puts commits into the queue. Those that the client has make known what they reach.
-func (p *painting) enter(ctx context.Context, names []tenants.Name, as flags) error {
+func (p *painting) enter(ctx context.Context, names []plumbing.Name, as flags) error {
 	if err := p.Load(ctx, names); err != nil {
 		return err
 	}
@@ -78,8 +78,8 @@ func (p *painting) enter(ctx context.Context, names []tenants.Name, as flags) er
 }
 
 // makeKnown marks a commit and what it reaches among the commits that were read.
-func (p *painting) makeKnown(name tenants.Name) {
-	stack := []tenants.Name{name}
+func (p *painting) makeKnown(name plumbing.Name) {
+	stack := []plumbing.Name{name}
 	for len(stack) > 0 {
 		top := stack[len(stack)-1]
 		stack = stack[:len(stack)-1]
@@ -97,9 +97,9 @@ func (p *painting) makeKnown(name tenants.Name) {
 
 // step takes the newest commits, and goes on to their parents.
 func (p *painting) step(ctx context.Context) error {
-	var hasKnown, hasNot []tenants.Name
+	var hasKnown, hasNot []plumbing.Name
 	for count := 0; count < batch && p.queue.Len() > 0; count++ {
-		name := heap.Pop(&p.queue).(tenants.Name)
+		name := heap.Pop(&p.queue).(plumbing.Name)
 		c := p.commits[name]
 		if c.flags&known != 0 {
 			hasKnown = append(hasKnown, p.parents(name)...)
@@ -110,7 +110,7 @@ func (p *painting) step(ctx context.Context) error {
 		p.order = append(p.order, name)
 		hasNot = append(hasNot, p.parents(name)...)
 	}
-	if err := p.Load(ctx, append(append([]tenants.Name{}, hasNot...), hasKnown...)); err != nil {
+	if err := p.Load(ctx, append(append([]plumbing.Name{}, hasNot...), hasKnown...)); err != nil {
 		return err
 	}
 	if err := p.enter(ctx, hasKnown, known); err != nil {
@@ -120,8 +120,8 @@ func (p *painting) step(ctx context.Context) error {
 }
 
 // result leaves out what turned out to be known after it was taken.
-func (p *painting) result() (order, edges []tenants.Name) {
-	isEdge := map[tenants.Name]bool{}
+func (p *painting) result() (order, edges []plumbing.Name) {
+	isEdge := map[plumbing.Name]bool{}
 	for _, name := range p.order {
 		if p.commits[name].flags&known != 0 {
 			continue
@@ -139,16 +139,14 @@ func (p *painting) result() (order, edges []tenants.Name) {
 
 // ReachesAny tells whether each of the wants reaches one of the haves, in a history that goes back no further than the oldest have.
 // A walk that takes too long gives false, and the client goes on to tell what it has.
-func (h *History) ReachesAny(ctx context.Context, wants, haves []tenants.Name) (bool, error) {
-	if err := h.Load(ctx, append(append([]tenants.Name{}, haves...), wants...)); err != nil {
+func (h *History) ReachesAny(ctx context.Context, wants, haves []plumbing.Name) (bool, error) {
+	if err := h.Load(ctx, append(append([]plumbing.Name{}, haves...), wants...)); err != nil {
 		return false, err
 	}
-	isHave, oldest := map[tenants.Name]bool{}, h.commits[haves[0]].Time
+	isHave, oldest := map[plumbing.Name]bool{}, h.commits[haves[0]].Time
 	for _, have := range haves {
 		isHave[have] = true
-		if h.commits[have].Time < oldest {
-			oldest = h.commits[have].Time
-		}
+		oldest = min(oldest, h.commits[have].Time)
 	}
 	h.common = haves
 	for _, want := range wants {
@@ -168,15 +166,15 @@ const (
 
 // reaches tells whether a want reaches a have. The commits on the way that it found count as haves from then on, so that the next want need
 // not go that way to its end.
-func (h *History) reaches(ctx context.Context, want tenants.Name, isHave map[tenants.Name]bool, oldest int64) (bool, error) {
-	from := map[tenants.Name]tenants.Name{want: want}
-	wave := []tenants.Name{want}
+func (h *History) reaches(ctx context.Context, want plumbing.Name, isHave map[plumbing.Name]bool, oldest int64) (bool, error) {
+	from := map[plumbing.Name]plumbing.Name{want: want}
+	wave := []plumbing.Name{want}
 	for len(wave) > 0 && len(from) < mostTried && h.tried < mostTriedInAll {
 		if err := h.Load(ctx, wave); err != nil {
 			return false, err
 		}
 		h.tried += len(wave)
-		var after []tenants.Name
+		var after []plumbing.Name
 		for _, name := range wave {
 			if isHave[name] {
 				markWay(isHave, from, name)
@@ -192,7 +190,7 @@ func (h *History) reaches(ctx context.Context, want tenants.Name, isHave map[ten
 }
 
 // ahead gives the parents of a commit that the walk has not come to, and notes that it comes to them from there.
-func (h *History) ahead(name tenants.Name, from map[tenants.Name]tenants.Name) (fresh []tenants.Name) {
+func (h *History) ahead(name plumbing.Name, from map[plumbing.Name]plumbing.Name) (fresh []plumbing.Name) {
 	for _, parent := range h.parents(name) {
 		if _, isSeen := from[parent]; !isSeen {
 			from[parent] = name
@@ -203,20 +201,9 @@ func (h *History) ahead(name tenants.Name, from map[tenants.Name]tenants.Name) (
 }
 
 // markWay marks the commits on the way to one.
-func markWay(marked map[tenants.Name]bool, from map[tenants.Name]tenants.Name, to tenants.Name) {
+func markWay(marked map[plumbing.Name]bool, from map[plumbing.Name]plumbing.Name, to plumbing.Name) {
 	for from[to] != to {
 		to = from[to]
 		marked[to] = true
 	}
-}
-
-// unseen gives the names that were not seen, and marks them.
-func unseen(names []tenants.Name, seen map[tenants.Name]bool) (fresh []tenants.Name) {
-	for _, name := range names {
-		if !seen[name] {
-			seen[name] = true
-			fresh = append(fresh, name)
-		}
-	}
-	return fresh
 }

@@ -2,28 +2,29 @@ package walk
 
 import (
 	"context"
+	"maps"
 	"math"
+	"slices"
 
-	"gitpoold/objects"
-	"gitpoold/tenants"
+	"gitpoold/plumbing"
 )
 
 // Request is what a fetch asks for. Wants and Haves are objects of the tenant.
 type Request struct {
-	Wants, Haves []tenants.Name
-	Was          []tenants.Name // commits that the client has without their parents
+	Wants, Haves []plumbing.Name
+	Was          []plumbing.Name // commits that the client has without their parents
 	Boundary     Boundary
 	Filter       Filter
 	// Tags are annotated tags to send where what they lead to in the end is sent, each with that.
-	Tags map[tenants.Name]tenants.Name
+	Tags map[plumbing.Name]plumbing.Name
 }
 
 // Select lists what a fetch has to send. Where a history is whole, the tenant is asked once for all that is missing. Else the commits are
 // walked, and the tenant is asked for what the trees have that the client's trees have not.
-func Select(ctx context.Context, source Source, h *History, q Request) (tenants.Listing, error) {
+func Select(ctx context.Context, source Source, h *History, q Request) (plumbing.Listing, error) {
 	h.Cut(q.Was)
 	h.Cut(q.Boundary.Shallow)
-	s := &selection{source: source, history: h, request: q, isNamed: map[tenants.Name]bool{}}
+	s := &selection{source: source, history: h, request: q, isNamed: map[plumbing.Name]bool{}}
 	steps := []func(context.Context) error{s.whole, s.named, s.filter, s.tags}
 	if !s.isWhole() {
 		steps[0] = s.part
@@ -41,9 +42,9 @@ type selection struct {
 	source  Source
 	history *History
 	request Request
-	listing tenants.Listing
+	listing plumbing.Listing
 	// isNamed is true of the trees and blobs that are wanted by their own names: they are sent whatever the client has, and pass every filter.
-	isNamed map[tenants.Name]bool
+	isNamed map[plumbing.Name]bool
 }
 
 // isWhole tells whether the client's history and the one that it gets end nowhere before their roots, and no filter counts the depth of trees.
@@ -67,26 +68,23 @@ func (s *selection) whole(ctx context.Context) (err error) {
 
 // unlisted gives those names of which the listing does not say already that they are no tags. Trees and blobs among the others become named
 // ones.
-func (s *selection) unlisted(names []tenants.Name) (left []tenants.Name) {
-	open := map[tenants.Name]bool{}
-	unseen(names, open)
+func (s *selection) unlisted(names []plumbing.Name) []plumbing.Name {
+	open := map[plumbing.Name]bool{}
+	plumbing.Unseen(names, open)
 	for at := 0; at < s.listing.Len(); at++ {
 		name := s.listing.Name(at)
-		if kind := s.listing.Kind(at); open[name] && kind != tenants.Tag {
+		if kind := s.listing.Kind(at); open[name] && kind != plumbing.Tag {
 			delete(open, name)
-			s.isNamed[name] = kind != tenants.Commit
+			s.isNamed[name] = kind != plumbing.Commit
 		}
 	}
-	for name := range open {
-		left = append(left, name)
-	}
-	return left
+	return slices.Collect(maps.Keys(open))
 }
 
 // lead finds what names lead to: commits, and tags on the way; trees and blobs become named ones. Tags alone are read.
-func (s *selection) lead(ctx context.Context, names []tenants.Name) (commits []tenants.Name, tags tenants.Listing, err error) {
-	seen := map[tenants.Name]bool{}
-	for names = unseen(names, seen); len(names) > 0; {
+func (s *selection) lead(ctx context.Context, names []plumbing.Name) (commits []plumbing.Name, tags plumbing.Listing, err error) {
+	seen := map[plumbing.Name]bool{}
+	for names = plumbing.Unseen(names, seen); len(names) > 0; {
 		wave, others, err := s.source.Tags(ctx, names)
 		if err != nil {
 			return nil, nil, err
@@ -99,10 +97,10 @@ func (s *selection) lead(ctx context.Context, names []tenants.Name) (commits []t
 		for _, name := range others {
 			s.isNamed[name] = true
 		}
-		var after []tenants.Name
-		err = s.source.Objects(ctx, wave, func(o tenants.Object) error {
+		var after []plumbing.Name
+		err = s.source.Objects(ctx, wave, func(o plumbing.Object) error {
 			tags = tags.With(o.Name, o.Kind, uint64(len(o.Contents)))
-			if target, isTag := objects.Tagged(o.Contents); isTag {
+			if target, isTag := plumbing.Tagged(o.Contents); isTag {
 				after = append(after, target)
 			}
 			return nil
@@ -110,7 +108,7 @@ func (s *selection) lead(ctx context.Context, names []tenants.Name) (commits []t
 		if err != nil {
 			return nil, nil, err
 		}
-		names = unseen(after, seen)
+		names = plumbing.Unseen(after, seen)
 	}
 	return commits, tags, nil
 }
@@ -133,7 +131,7 @@ func (s *selection) part(ctx context.Context) error {
 	}
 	s.listing = tags
 	for _, name := range order {
-		s.listing = s.listing.With(name, tenants.Commit, s.history.commits[name].size)
+		s.listing = s.listing.With(name, plumbing.Commit, s.history.commits[name].size)
 	}
 	if s.request.Filter.TreeDepth == 0 {
 		return nil
@@ -142,7 +140,7 @@ func (s *selection) part(ctx context.Context) error {
 }
 
 // trees lists what the trees of commits have, and those of the client's commits have not.
-func (s *selection) trees(ctx context.Context, order, clients []tenants.Name) error {
+func (s *selection) trees(ctx context.Context, order, clients []plumbing.Name) error {
 	if err := s.history.Load(ctx, clients); err != nil {
 		return err
 	}
@@ -156,22 +154,22 @@ func (s *selection) trees(ctx context.Context, order, clients []tenants.Name) er
 }
 
 // above leaves out what is too deep below the roots.
-func (s *selection) above(ctx context.Context, found tenants.Listing, roots []tenants.Name) (tenants.Listing, error) {
-	seen := map[tenants.Name]bool{}
-	wave := unseen(roots, seen)
+func (s *selection) above(ctx context.Context, found plumbing.Listing, roots []plumbing.Name) (plumbing.Listing, error) {
+	seen := map[plumbing.Name]bool{}
+	wave := plumbing.Unseen(roots, seen)
 	for depth := 1; depth < s.request.Filter.TreeDepth && len(wave) > 0; depth++ {
-		var after []tenants.Name
-		err := s.source.Objects(ctx, wave, func(o tenants.Object) error {
-			if o.Kind != tenants.Tree {
+		var after []plumbing.Name
+		err := s.source.Objects(ctx, wave, func(o plumbing.Object) error {
+			if o.Kind != plumbing.Tree {
 				return nil
 			}
 			before := len(seen)
-			forEach(o.Contents, func(e objects.Entry) {
-				if fresh := unseen([]tenants.Name{e.Name}, seen); e.IsTree() {
+			forEach(string(o.Contents), func(e plumbing.Entry) {
+				if fresh := plumbing.Unseen([]plumbing.Name{e.Name}, seen); e.IsTree() {
 					after = append(after, fresh...)
 				}
 			})
-			return tenants.Hold(ctx, nameBytes*int64(len(seen)-before))
+			return plumbing.Hold(ctx, nameBytes*int64(len(seen)-before))
 		})
 		if err != nil {
 			return nil, err
@@ -181,8 +179,8 @@ func (s *selection) above(ctx context.Context, found tenants.Listing, roots []te
 	return found.Keep(func(at int) bool { return seen[found.Name(at)] }), nil
 }
 
-func forEach(contents []byte, use func(objects.Entry)) {
-	for entry, rest, ok := objects.NextEntry(contents); ok; entry, rest, ok = objects.NextEntry(rest) {
+func forEach(contents string, use func(plumbing.Entry)) {
+	for entry, rest, ok := plumbing.NextEntry(contents); ok; entry, rest, ok = plumbing.NextEntry(rest) {
 		if !entry.IsGitlink() {
 			use(entry)
 		}
@@ -191,7 +189,7 @@ func forEach(contents []byte, use func(objects.Entry)) {
 
 // named adds what the named trees and blobs reach, as far as it is not listed.
 func (s *selection) named(ctx context.Context) error {
-	var roots []tenants.Name
+	var roots []plumbing.Name
 	for name, is := range s.isNamed {
 		if is {
 			roots = append(roots, name)
@@ -205,12 +203,12 @@ func (s *selection) named(ctx context.Context) error {
 		found, err = s.above(ctx, found, roots)
 	}
 	if err == nil {
-		err = tenants.Hold(ctx, nameBytes*int64(s.listing.Len()))
+		err = plumbing.Hold(ctx, nameBytes*int64(s.listing.Len()))
 	}
 	if err != nil {
 		return err
 	}
-	listed := make(map[tenants.Name]bool, s.listing.Len())
+	listed := make(map[plumbing.Name]bool, s.listing.Len())
 	for at := 0; at < s.listing.Len(); at++ {
 		listed[s.listing.Name(at)] = true
 	}
@@ -226,9 +224,9 @@ func (s *selection) filter(context.Context) error {
 	}
 	s.listing = s.listing.Keep(func(at int) bool {
 		switch s.listing.Kind(at) {
-		case tenants.Tree:
+		case plumbing.Tree:
 			return f.TreeDepth > 0 || s.isNamed[s.listing.Name(at)]
-		case tenants.Blob:
+		case plumbing.Blob:
 			return f.TreeDepth > 0 && s.listing.Size(at) < uint64(f.BlobBytes) || s.isNamed[s.listing.Name(at)]
 		}
 		return true
@@ -241,19 +239,19 @@ func (s *selection) tags(ctx context.Context) error {
 	if len(s.request.Tags) == 0 {
 		return nil
 	}
-	leading := map[tenants.Name][]tenants.Name{}
+	leading := map[plumbing.Name][]plumbing.Name{}
 	for tag, peeled := range s.request.Tags {
 		leading[peeled] = append(leading[peeled], tag)
 	}
-	var names []tenants.Name
-	listed := map[tenants.Name]bool{}
+	var names []plumbing.Name
+	listed := map[plumbing.Name]bool{}
 	for at := 0; at < s.listing.Len(); at++ {
 		name := s.listing.Name(at)
-		if names = append(names, leading[name]...); s.listing.Kind(at) == tenants.Tag {
+		if names = append(names, leading[name]...); s.listing.Kind(at) == plumbing.Tag {
 			listed[name] = true
 		}
 	}
-	return s.source.Objects(ctx, unseen(names, listed), func(o tenants.Object) error {
+	return s.source.Objects(ctx, plumbing.Unseen(names, listed), func(o plumbing.Object) error {
 		s.listing = s.listing.With(o.Name, o.Kind, uint64(len(o.Contents)))
 		return nil
 	})

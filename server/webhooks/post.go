@@ -31,9 +31,9 @@ func (s *Sender) deliver(d delivery, body []byte) error {
 	err := s.post(ctx, d, body)
 	switch {
 	case err != nil && s.ctx.Err() != nil:
-		return errStopped
+		return ErrStopped
 	case err != nil && ctx.Err() != nil:
-		return errLate
+		return ErrLate
 	}
 	return err
 }

@@ -7,7 +7,7 @@ import (
 	"path/filepath"
 	"strings"
 
-	"gitpoold/lists"
+	"gitpoold/configfile"
 )
 
 // listName is the operator's file. It has lines `secret ADDRESS SECRET` and `allow NETWORK`.
@@ -24,7 +24,7 @@ type settings struct {
 
 func readSettings(path string) (s settings, err error) {
 	s.secrets = map[string]string{}
-	lines, err := lists.Read(path)
+	lines, err := configfile.Read(path)
 	for _, words := range lines {
 		if err := s.take(words); err != nil {
 			return s, fmt.Errorf("%s: %w", path, err)
@@ -141,7 +141,7 @@ func isNetwork(words []string, wanted netip.Prefix) bool {
 
 // change takes the lines out that are meant, and puts another one in.
 func change(folder string, isMeant func(words []string) bool, hasLine bool, line string) error {
-	return lists.Change(filepath.Join(folder, listName), func(lines []string) (left []string, err error) {
+	return configfile.Change(filepath.Join(folder, listName), func(lines []string) (left []string, err error) {
 		for _, it := range lines {
 			if words := strings.Fields(it); len(words) < 2 || !isMeant(words) {
 				left = append(left, it)
@@ -156,7 +156,7 @@ func change(folder string, isMeant func(words []string) bool, hasLine bool, line
 
 // Rows gives the lines of a folder's file, without the secrets.
 func Rows(folder string) (rows []string, err error) {
-	lines, err := lists.Read(filepath.Join(folder, listName))
+	lines, err := configfile.Read(filepath.Join(folder, listName))
 	for _, words := range lines {
 		if len(words) == 3 && words[0] == "secret" {
 			words[1], words = Shown(words[1]), words[:2]

@@ -13,7 +13,7 @@ import (
 	"sync"
 	"time"
 
-	"gitpoold/lists"
+	"gitpoold/configfile"
 	"gitpoold/metrics"
 )
 
@@ -43,10 +43,7 @@ func waitAfter(tries int) time.Duration {
 	for ; tries > 1 && wait < longestWait; tries-- {
 		wait *= 2
 	}
-	if wait > longestWait {
-		return longestWait
-	}
-	return wait
+	return min(longestWait, wait)
 }
 
 // Config says what a sender needs.
@@ -64,7 +61,7 @@ type Config struct {
 // Sender delivers events to addresses. Its methods may be called by many goroutines at once.
 type Sender struct {
 	Config
-	settings *lists.Followed[settings]
+	settings *configfile.Followed[settings]
 	spool    spool
 	history  history
 	clock    func() time.Time
@@ -89,7 +86,7 @@ type queue struct {
 // Open reads what a folder says of addresses, and what waits for them. Nothing is delivered before Start, or a Put.
 func Open(c Config) (*Sender, error) {
 	path := filepath.Join(c.Folder, listName)
-	followed, err := lists.Follow(func() (settings, error) { return readSettings(path) }, c.Tell, path)
+	followed, err := configfile.Follow(func() (settings, error) { return readSettings(path) }, c.Tell, path)
 	if err != nil {
 		return nil, err
 	}
@@ -288,9 +285,7 @@ func (s *Sender) next(address string, q *queue) (d delivery, wait time.Duration,
 		if until <= 0 {
 			return it, 0, false
 		}
-		if until < wait {
-			wait = until
-		}
+		wait = min(wait, until)
 	}
 	return d, wait, false
 }
@@ -302,16 +297,16 @@ func (s *Sender) Count(result string) {
 
 // Results of an attempt that are told in these words.
 var (
-	errLate    = errors.New("it took longer than a hook may take")
-	errStopped = errors.New("the server stops")
+	ErrLate    = errors.New("it took longer than a hook may take")
+	ErrStopped = errors.New("the server stops")
 )
 
-// resultOf is how the metrics call what became of an attempt.
-func resultOf(err error) string {
+// ResultOf is how the metrics call what became of an attempt to tell a hook.
+func ResultOf(err error) string {
 	switch err {
 	case nil:
 		return "ok"
-	case errLate:
+	case ErrLate:
 		return "late"
 	}
 	return "failed"
@@ -332,11 +327,11 @@ func (s *Sender) attempt(q *queue, d delivery) {
 		return
 	}
 	began := s.clock()
-	if err = s.deliver(d, body); err == errStopped {
+	if err = s.deliver(d, body); errors.Is(err, ErrStopped) {
 		return
 	}
 	d.Tries++
-	s.Count(resultOf(err))
+	s.Count(ResultOf(err))
 	s.Metrics.Observe("gitpoold_hook_seconds", "The time of hooks.", s.clock().Sub(began).Seconds())
 	if err == nil {
 		s.drop(q, d)

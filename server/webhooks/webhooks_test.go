@@ -17,7 +17,7 @@ import (
 	"time"
 
 	"gitpoold/await"
-	"gitpoold/lists"
+	"gitpoold/configfile"
 	"gitpoold/metrics"
 )
 
@@ -518,7 +518,7 @@ func TestSettings(t *testing.T) {
 			t.Error(it)
 		}
 	}
-	must(t, os.WriteFile(filepath.Join(folder, listName), []byte(lists.Text("secret x hidden")), 0o600))
+	must(t, os.WriteFile(filepath.Join(folder, listName), []byte(configfile.Text("secret x hidden")), 0o600))
 	if _, err := readSettings(filepath.Join(folder, listName)); err == nil || strings.Contains(err.Error(), "hidden") {
 		t.Error(err)
 	}

@@ -18,6 +18,7 @@ use Rattle.file_maps.specs.StoredFiles.{stored_files, stored_map}
 use Rattle.file_maps.specs.StoredTree.{ListsTree}
 use Rattle.file_maps.specs.Storing.{trees_fault, with_trees}
 use Rattle.file_maps.specs.Trees.{nested_trees, tree_id}
+use Rattle.file_maps.specs.StoredAgain.{Every}
 use Rattle.file_maps.proofs.GoodObjects.{files-of, good-trees}
 use Rattle.file_maps.proofs.StoredAgain.{stored-already}
 use Rattle.open_commits.specs.declared.fault.Fault.{Fault}
@@ -115,7 +116,7 @@ module _ (digest : List ℕ → List ℕ) (repository : Repository) (good : AreO
   same-tree : tree_id digest (listed (stored_map os c.tree)) ≡ c.tree
   same-tree =
       ap (tree_id digest) of-tree
-      ∙ (stored-already digest os (good-trees digest os good) c.tree fs lists).name
+      ∙ (stored-already digest os Every (good-trees digest os good) c.tree fs lists tt).name
 
   content-is : commit_content digest (commit_told os id c) ≡ content_from kind.Commit bytes
   content-is =

@@ -16,7 +16,7 @@ use Rattle.git_model.proofs.Places.{first_named, later_named, nothing_named, of_
 use Rattle.git_model.proofs.TreeReadings.{tree_back}
 use Rattle.tenant_tables.specs.declared.table.TheConstants.{CONTENTS_LIMIT}
 use Rattle.file_maps.specs.FileMap.{Listed}
-use Rattle.file_maps.specs.StoredAgain.{AreTreesGood, IsFilled}
+use Rattle.file_maps.specs.StoredAgain.{AreTreesGood, Every, IsFilled}
 use Rattle.file_maps.specs.StoredTree.{HasTree, Lists, nothing, first_file, first_directory, ListsTree}
 use Rattle.file_maps.specs.Trees.{depth_of, nested_trees, tree_content, tree_name}
 use Rattle.file_maps.proofs.GoodObjects.{good-trees}
@@ -100,28 +100,29 @@ module _ (digest : List ℕ → List ℕ) (repository : Repository) (good : AreO
 
   -- ---- reached trees among themselves
 
-  filled-reached : (es : List TreeEntry) → AllByRecursion (IsFilled os) es → DirectoriesReached es
-      → AllByRecursion (IsFilled reached) es
+  filled-reached : (es : List TreeEntry) → AllByRecursion (IsFilled os Every) es → DirectoriesReached es
+      → AllByRecursion (IsFilled reached Every) es
   filled-reached [] full h = tt
   filled-reached (e ∷ es) full h = (first, filled-reached es full.1 h.1)
     where
-      first : IsFilled reached e
+      first : IsFilled reached Every e
       first is =
           let t = full.0 is in record {
             inside = t.inside;
             tree = to-reached e.id t.inside (h.0 is) t.tree;
             some = t.some;
+            meant = tt;
           }
 
-  good-reached : AreTreesGood digest reached
+  good-reached : AreTreesGood digest reached Every
   good-reached = record {
     named = λ id es has. (good-trees digest os good).named id es (from-reached id es has);
     short = λ id es has. (good-trees digest os good).short id es (from-reached id es has);
-    filled = λ id es has.
+    filled = λ id es has meant.
         let there = from-reached id es has in
-        All-from_recursion (IsFilled reached) es
+        All-from_recursion (IsFilled reached Every) es
         (filled-reached es
-        (recursion_from_All (IsFilled os) es ((good-trees digest os good).filled id es there))
+        (recursion_from_All (IsFilled os Every) es ((good-trees digest os good).filled id es there tt))
         (directories-reached id es there (is-reached id es has)));
   }
 
@@ -160,4 +161,4 @@ module _ (digest : List ℕ → List ℕ) (repository : Repository) (good : AreO
       → ListsTree os id fs → AllByRecursion (IsReachedTree digest repository) (nested_trees digest fs)
   trees-reached id fs h t =
       each-known (nested_trees digest fs)
-      (trees-held digest reached good-reached id fs (tree-reached id fs h t) (depth_of fs) (omega arith))
+      (trees-held digest reached Every good-reached id fs (tree-reached id fs h t) tt (depth_of fs) (omega arith))

@@ -14,15 +14,21 @@ use Rattle.git_model.specs.Repository.{Object}
 use Rattle.git_paths.specs.Paths.{IsComponent, joined, is_within_limits}
 use Rattle.git_paths.proofs.Decided.{test-from_IsWithinLimits}
 use Rattle.tenant_tables.specs.Sums.{IsWithin, TreesFit}
+use Rattle.tenant_tables.proofs.SumsIn.{fitting-known}
 use Rattle.file_maps.specs.declared.check.TheConstants.{FILES_LIMIT}
+use Rattle.file_maps.specs.declared.fault.Fault.{Fault as FilesFault}
 use Rattle.file_maps.specs.Edits.{is_root, moved, put_fault, put_tree_at}
 use Rattle.file_maps.specs.FileMap.{AreFiles, FileMap, Listed, listed}
+use Rattle.file_maps.specs.Grafts.{or_else}
+use Rattle.file_maps.specs.PlainTrees.{ListsPlain}
 use Rattle.file_maps.specs.Storable.{files_summary, longest_of}
 use Rattle.file_maps.specs.StoredFiles.{commit_map, stored_files, stored_map, tree_of_commit}
 use Rattle.file_maps.specs.StoredTree.{ListsTree}
+use Rattle.file_maps.specs.Trees.{tree_content}
 use Rattle.file_maps.proofs.Fits.{depth_each}
 use Rattle.file_maps.proofs.GoodObjects.{files-of}
-use Rattle.file_maps.proofs.Grafting.{no_roots}
+use Rattle.file_maps.proofs.Grafting.{no_fault, no_roots}
+use Rattle.file_maps.proofs.KnownTrees.{has-files}
 use Rattle.file_maps.proofs.ListedOrder.{listed-with, tree-in-order}
 use Rattle.file_maps.proofs.Listing.{tree-sound}
 use Rattle.file_maps.proofs.Puts.{AreFiles-nil}
@@ -116,9 +122,20 @@ module _ (digest : List ℕ → List ℕ) (os : List Object) (good : AreObjects 
       subst (λ (o : Option Content). kind_named (commit_read (unwrap_or o no_content).bytes).tree os ≡ Some kind.Tree)
       (sym s.named) s.tree
 
-  -- no limit refuses the files of a commit that is there
+  abbrev own : List ℕ
+  own = tree_of_commit os id
+
+  plain : ListsPlain os own (stored_files os own)
+  plain =
+      let t = (files-of digest os good own tree-there).listed in
+      has-files os own
+      (fitting-known os fit (λ i lt. good.distinct i lt) own (tree_content t.direct) t.tree.content refl)
+
+  -- nothing refuses the files of a commit that is there
   pub started : (commit : OpenCommit)
       → started_from os id commit ≡ Ok (record commit { parents = id ∷ []; files = commit_map os id })
   started commit =
       ap (changed_to (record commit { parents = id ∷ [] }) (commit_map os id))
-      (files-fit digest os good fit (tree_of_commit os id) tree-there)
+      (ap (λ (f : Option FilesFault). or_else f (put_fault (stored_files os own) (commit_map os id)))
+      (no_fault os own (stored_files os own) plain)
+      ∙ files-fit digest os good fit own tree-there)

@@ -11,7 +11,7 @@ use Rattle.file_maps.specs.Edits.{moved}
 use Rattle.file_maps.specs.Trees.{Groups, grouped, depth_of, tree_name, entries_within, trees_within as trees_made}
 use Rattle.file_maps.specs.Below.{group_trees}
 use Rattle.file_maps.specs.StoredTree.{HasTree, file_from, Lists, nothing, first_file, first_directory, ListsTree}
-use Rattle.file_maps.specs.StoredAgain.{IsFilled, AreTreesGood}
+use Rattle.file_maps.specs.StoredAgain.{AreTreesGood, Every, IsFilled}
 use Rattle.file_maps.proofs.Apart.{all-weaker}
 use Rattle.file_maps.proofs.Listing.{Distinct, distinct, tree-sound}
 use Rattle.file_maps.proofs.Nested.{entries-nil}
@@ -60,7 +60,7 @@ module _ (os : List Object) (rank : List ℕ → ℕ)
       (λ (e : TreeEntry). e.mode ≡ mode.Directory → rank e.id < k)
       (λ e d is. let b = d is in omega arith) es (falls id es has)
 
-module _ (digest : List ℕ → List ℕ) (os : List Object) (good : AreTreesGood digest os)
+module _ (digest : List ℕ → List ℕ) (os : List Object) (good : AreTreesGood digest os Every)
     (rank : List ℕ → ℕ)
     (falls : (id : List ℕ) (es : List TreeEntry) → HasTree os id es → RanksBelow rank (rank id) es) where
   abbrev names : List (List TreeEntry) → List (List ℕ)
@@ -70,7 +70,7 @@ module _ (digest : List ℕ → List ℕ) (os : List Object) (good : AreTreesGoo
   own-name : (id : List ℕ) (fs : Listed) (t : ListsTree os id fs) (n : ℕ) → depth_of fs ≤ n
       → tree_name digest (entries_within digest n fs) ≡ id
   own-name id fs t n deep =
-      ap (tree_name digest) (entries-again digest os good id fs t n deep) ∙ sym (good.named id t.direct t.tree)
+      ap (tree_name digest) (entries-again digest os Every good id fs t tt n deep) ∙ sym (good.named id t.direct t.tree)
 
   level-names : (id : List ℕ) (fs : Listed) (t : ListsTree os id fs) (n k : ℕ) → depth_of fs ≤ suc n
       → names (flat_map (group_trees digest n) (grouped fs)) ≡ trees_at os k t.direct
@@ -83,7 +83,7 @@ module _ (digest : List ℕ → List ℕ) (os : List Object) (good : AreTreesGoo
       ∙ sym (trees-level os k id t.direct t.tree)
 
   names-again : {es : List TreeEntry} {fs : Listed} → Lists os es fs → (n : ℕ)
-      → depth_of fs ≤ suc n → Distinct es → AllByRecursion (IsFilled os) es → (k : ℕ)
+      → depth_of fs ≤ suc n → Distinct es → AllByRecursion (IsFilled os Every) es → (k : ℕ)
       → RanksBelow rank k es
       → names (flat_map (group_trees digest n) (grouped fs)) ≡ trees_at os k es
   names-again nothing n deep d h k r = refl
@@ -93,8 +93,8 @@ module _ (digest : List ℕ → List ℕ) (os : List Object) (good : AreTreesGoo
       ∙ names-again l n (omega arith) d.1 h.1 k r.1
       ∙ sym (ap (λ (l : List (List ℕ)). l ++ trees_at os k es) (no-trees e.mode (trees_within os k e.id) ne))
   names-again (first_directory e es inside [] files is has sub l) n deep d h k r =
-      absurd (lists-some digest os good sub (filled-in digest os good e.id inside has)
-      (inside-some digest os good e inside h.0 is has) refl)
+      absurd (lists-some digest os Every good sub (filled-in digest os Every good e.id inside has tt)
+      (inside-some digest os Every good e inside h.0 is has) refl)
   names-again (first_directory e es inside (([], x) ∷ under) files is has sub l) n deep d h k r =
       absurd ((tree-sound os e.id (([], x) ∷ under)
       (record { direct = inside; tree = has; lists = sub })).0.below_the_root refl)
@@ -108,7 +108,7 @@ module _ (digest : List ℕ → List ℕ) (os : List Object) (good : AreTreesGoo
       let inner : names (trees_made digest (suc n) fs) ≡ trees_within os (suc k) e.id =
       level-names e.id fs (record { direct = inside; tree = has; lists = sub }) n k within
       (names-again sub n within (distinct inside has.entries.names_are_distinct)
-      (filled-in digest os good e.id inside has) k (below os rank falls e.id inside k has (r.0 is))) in
+      (filled-in digest os Every good e.id inside has tt) k (below os rank falls e.id inside k has (r.0 is))) in
       ap (λ (gs : Groups). names (flat_map (group_trees digest (suc n)) gs))
       (moved-grouped e.name ((c ∷ q), x) under files (lists-begin e.name l d.0))
       ∙ map-append (tree_name digest) (trees_made digest (suc n) fs) (flat_map (group_trees digest (suc n)) (grouped files))
@@ -122,7 +122,7 @@ module _ (digest : List ℕ → List ℕ) (os : List Object) (good : AreTreesGoo
   trees-named id fs t n zero deep lt = absurd (omega arith)
   trees-named id fs t zero (suc k) deep lt =
       let none : [] ≡ t.direct =
-      sym (entries-nil digest 0 fs refl) ∙ entries-again digest os good id fs t 0 deep in
+      sym (entries-nil digest 0 fs refl) ∙ entries-again digest os Every good id fs t tt 0 deep in
       ap names (made-none digest fs)
       ∙ ap (λ (es : List TreeEntry). tree_name digest es ∷ []) none
       ∙ ap (λ (own : List ℕ). own ∷ []) (sym (good.named id t.direct t.tree))
@@ -131,7 +131,7 @@ module _ (digest : List ℕ → List ℕ) (os : List Object) (good : AreTreesGoo
   trees-named id fs t (suc n) (suc k) deep lt =
       level-names id fs t n k deep
       (names-again t.lists n deep (distinct t.direct t.tree.entries.names_are_distinct)
-      (filled-in digest os good id t.direct t.tree) k (below os rank falls id t.direct k t.tree lt))
+      (filled-in digest os Every good id t.direct t.tree tt) k (below os rank falls id t.direct k t.tree lt))
 
   -- ---- as many levels as there are objects are enough
 
@@ -140,7 +140,7 @@ module _ (digest : List ℕ → List ℕ) (os : List Object) (good : AreTreesGoo
       → trees_within os k id ≡ trees_within os j id
 
   one-same : (k j : ℕ) → SameTrees k j → (e : TreeEntry) → (e.mode ≡ mode.Directory → rank e.id < k)
-      → (e.mode ≡ mode.Directory → rank e.id < j) → IsFilled os e
+      → (e.mode ≡ mode.Directory → rank e.id < j) → IsFilled os Every e
       → trees_by e.mode (trees_within os k e.id) ≡ trees_by e.mode (trees_within os j e.id)
   one-same k j same e r s h = by e.mode refl
     where
@@ -152,7 +152,7 @@ module _ (digest : List ℕ → List ℕ) (os : List Object) (good : AreTreesGoo
       by mode.Gitlink is = refl
 
   all-same : (k j : ℕ) → SameTrees k j → (es : List TreeEntry) → RanksBelow rank k es → RanksBelow rank j es
-      → AllByRecursion (IsFilled os) es → trees_at os k es ≡ trees_at os j es
+      → AllByRecursion (IsFilled os Every) es → trees_at os k es ≡ trees_at os j es
   all-same k j same [] r s h = refl
   all-same k j same (e ∷ es) r s h =
       ap (λ (l : List (List ℕ)). l ++ trees_at os k es) (one-same k j same e r.0 s.0 h.0)
@@ -165,5 +165,5 @@ module _ (digest : List ℕ → List ℕ) (os : List Object) (good : AreTreesGoo
       trees-level os k id es has
       ∙ ap (λ (l : List (List ℕ)). l ++ id ∷ [])
       (all-same k j (same-trees k j) es (below os rank falls id es k has lt) (below os rank falls id es j has lt')
-      (filled-in digest os good id es has))
+      (filled-in digest os Every good id es has tt))
       ∙ sym (trees-level os j id es has)

@@ -14,7 +14,7 @@ use Rattle.git_model.specs.Tree.{TreeEntry}
 use Rattle.git_model.proofs.Growing.{after_prefix}
 use Rattle.git_model.proofs.Places.{first_named}
 use Rattle.file_maps.specs.StoredTree.{HasTree}
-use Rattle.file_maps.specs.StoredAgain.{AreTreesGood, IsFilled}
+use Rattle.file_maps.specs.StoredAgain.{AreTreesGood, Every, IsFilled}
 use Rattle.file_maps.proofs.Apart.{all-weaker}
 use Rattle.file_maps.proofs.ListedLater.{named-later}
 use Rattle.file_maps.proofs.StoredAgain.{filled-in}
@@ -99,7 +99,7 @@ module _ (os : List Object) where
 
 -- ---- all trees below one
 
-module _ (digest : List ℕ → List ℕ) (os : List Object) (good : AreTreesGood digest os)
+module _ (digest : List ℕ → List ℕ) (os : List Object) (good : AreTreesGood digest os Every)
     (rank : List ℕ → ℕ)
     (falls : (id : List ℕ) (es : List TreeEntry) → HasTree os id es → RanksBelow rank (rank id) es) where
   abbrev with_below : ℕ → TreeEntry → List Object → List Object
@@ -111,7 +111,7 @@ module _ (digest : List ℕ → List ℕ) (os : List Object) (good : AreTreesGoo
       → AreWhole os held → IsHere held id → with_named os (trees_within os k id) held ≡ held
 
   one-skipped : (k : ℕ) → Once k → (e : TreeEntry) → (e.mode ≡ mode.Directory → rank e.id < k)
-      → IsFilled os e → (held : List Object) → AreWhole os held
+      → IsFilled os Every e → (held : List Object) → AreWhole os held
       → (e.mode ≡ mode.Directory → IsHere held e.id) → with_below k e held ≡ held
   one-skipped k once e r h held whole here = by e.mode refl
     where
@@ -123,7 +123,7 @@ module _ (digest : List ℕ → List ℕ) (os : List Object) (good : AreTreesGoo
       by mode.Gitlink is = refl
 
   all-skipped : (k : ℕ) → Once k → (es : List TreeEntry) → RanksBelow rank k es
-      → AllByRecursion (IsFilled os) es → (held : List Object) → AreWhole os held → Directories held es
+      → AllByRecursion (IsFilled os Every) es → (held : List Object) → AreWhole os held → Directories held es
       → with_named os (trees_at os k es) held ≡ held
   all-skipped k once [] r h held whole here = refl
   all-skipped k once (e ∷ es) r h held whole here =
@@ -137,7 +137,7 @@ module _ (digest : List ℕ → List ℕ) (os : List Object) (good : AreTreesGoo
       ap (λ (ids : List (List ℕ)). with_named os ids held) (trees-level os k id es has)
       ∙ named-both os (trees_at os k es) (id ∷ []) held
       ∙ ap (with_named os (id ∷ []))
-      (all-skipped k (once k) es (below os rank falls id es k has lt) (filled-in digest os good id es has) held whole
+      (all-skipped k (once k) es (below os rank falls id es k has lt) (filled-in digest os Every good id es has tt) held whole
       (directories-of os held whole id es has here))
       ∙ there-already id (content_named id os) held here
 
@@ -159,7 +159,7 @@ module _ (digest : List ℕ → List ℕ) (os : List Object) (good : AreTreesGoo
     there : e.mode ≡ mode.Directory → IsHere new e.id
 
   one-comes : (k : ℕ) → Comings k → (e : TreeEntry) → (e.mode ≡ mode.Directory → rank e.id < k)
-      → IsFilled os e → (held : List Object) → AreWhole os held → OneComes (with_below k e held) e
+      → IsFilled os Every e → (held : List Object) → AreWhole os held → OneComes (with_below k e held) e
   one-comes k comings e r h held whole = by e.mode refl
     where
       by : (m : FileMode) → e.mode ≡ m → OneComes (with_named os (trees_by m (trees_within os k e.id)) held) e
@@ -173,7 +173,7 @@ module _ (digest : List ℕ → List ℕ) (os : List Object) (good : AreTreesGoo
       by mode.Gitlink is = record { whole = whole; there = λ d. cc }
 
   all-come : (k : ℕ) → Comings k → (es : List TreeEntry) → RanksBelow rank k es
-      → AllByRecursion (IsFilled os) es → (held : List Object) → AreWhole os held
+      → AllByRecursion (IsFilled os Every) es → (held : List Object) → AreWhole os held
       → AllCome (with_named os (trees_at os k es) held) es
   all-come k comings [] r h held whole = record { whole = whole; there = tt }
   all-come k comings (e ∷ es) r h held whole =
@@ -189,7 +189,7 @@ module _ (digest : List ℕ → List ℕ) (os : List Object) (good : AreTreesGoo
   pub comes : (k : ℕ) → Comings k
   comes zero id es has lt held whole = absurd (omega arith)
   comes (suc k) id es has lt held whole =
-      let inner = all-come k (comes k) es (below os rank falls id es k has lt) (filled-in digest os good id es has) held whole in
+      let inner = all-come k (comes k) es (below os rank falls id es k has lt) (filled-in digest os Every good id es has tt) held whole in
       let mid : List Object = with_named os (trees_at os k es) held in
       subst (λ (ids : List (List ℕ)). Comes held ids id) (sym (trees-level os k id es has))
       (record {

@@ -19,7 +19,7 @@ use Rattle.file_maps.specs.FileMap.{Listed}
 use Rattle.file_maps.specs.Trees.{tree_content}
 use Rattle.file_maps.specs.StoredTree.{HasTree, ListsTree, AreFilesOf}
 use Rattle.file_maps.specs.StoredFiles.{stored_files}
-use Rattle.file_maps.specs.StoredAgain.{IsFilled, AreTreesGood}
+use Rattle.file_maps.specs.StoredAgain.{Every, IsFilled, AreTreesGood}
 use Rattle.file_maps.proofs.Apart.{all-weaker}
 use Rattle.file_maps.proofs.StoredFiles.{RanksBelow, tree-within, lists-within}
 
@@ -117,7 +117,7 @@ module _ (digest : List ℕ → List ℕ) (os : List Object) (good : AreObjects 
   filled : (place : ℕ) (es : List TreeEntry) → AllByRecursion (Stands place) es
       → AllByRecursion
       (λ e. e.mode ≡ mode.Directory → (unwrap_or (object_named e.id os) no_content).bytes ≢ []) es
-      → AllByRecursion (IsFilled os) es
+      → AllByRecursion (IsFilled os Every) es
   filled place [] s n = tt
   filled place (e ∷ es) s n = (
     λ is.
@@ -127,16 +127,17 @@ module _ (digest : List ℕ → List ℕ) (os : List Object) (good : AreObjects 
           some = λ empty.
               n.0 is (ap (λ (o : Option Content). (unwrap_or o no_content).bytes) has.1.content
               ∙ ap tree_contents empty);
+          meant = tt;
         },
     filled place es s.1 n.1,
   )
 
-  pub good-trees : AreTreesGood digest os
+  pub good-trees : AreTreesGood digest os Every
   good-trees = record {
     named = λ id es h. (is-object id (tree_content es) h.content).named;
     short = λ id es h. (is-object id (tree_content es) h.content).short;
-    filled = λ id es h.
-        All-from_recursion (IsFilled os) es
+    filled = λ id es h meant.
+        All-from_recursion (IsFilled os Every) es
         (filled (place_of id os) es (directories id es h)
         (recursion_from_All _ es (none-empty id es h).none_empty));
   }

@@ -1,15 +1,18 @@
 -- What a stored tree at a path leaves, and why it is refused.
 use Rattle.std.proofs.Common.{◌≡◌, ◌≢◌, ℕ, ◌+◌, ◌≤◌, true, false, ◌&&◌, leb, List, [], ◌∷◌, ◌++◌}
-use Rattle.std.proofs.Common.{length, Option, None, Result, refl, sym, ap, ◌∙◌, subst, arith}
+use Rattle.std.proofs.Common.{length, Option, None, Some, Result, refl, sym, ap, ◌∙◌, subst, arith}
+use Rattle.std.specs.Prelude.{IsSome}
 use Rattle.std.specs.FinMap as finmap
 use Rattle.std.specs.FinMap.{from_sorted}
 use Rattle.std.specs.List.{AllByRecursion, list_any}
 use Rattle.std.proofs.lemmas.Bool.{leb-true, le-leb}
 use Rattle.std.proofs.lemmas.List.{length-append, length-map}
-use Rattle.git_model.specs.Repository.{Object}
+use Rattle.git_model.specs.Content.{Content}
+use Rattle.git_model.specs.Repository.{Object, object_named}
 use Rattle.git_paths.specs.Paths.{IsWithinLimits, joined}
 use Rattle.git_paths.proofs.Below.{tail, joined-append}
 use Rattle.tenant_tables.specs.declared.summary.Summary.{Summary}
+use Rattle.tenant_tables.specs.SumIn.{sum_in}
 use Rattle.file_maps.specs.declared.check.TheConstants.{FILES_LIMIT}
 use Rattle.file_maps.specs.declared.entry.Entry.{Entry}
 use Rattle.file_maps.specs.declared.fault.Fault.{Fault}
@@ -17,16 +20,17 @@ use Rattle.file_maps.specs.FileMap.{Path, Listed, FileMap, is_apart, ArePairwise
 use Rattle.file_maps.specs.Edits.{moved, is_root, fits, put_tree_at, put_fault}
 use Rattle.file_maps.specs.Calls.{Edits}
 use Rattle.file_maps.specs.Kept.{put_all}
-use Rattle.file_maps.specs.Trees.{depth_of}
+use Rattle.file_maps.specs.Trees.{depth_of, tree_content}
 use Rattle.file_maps.specs.Storable.{longest_of, files_summary}
+use Rattle.file_maps.specs.PlainTrees.{HasSummary, ListsPlain}
 use Rattle.file_maps.specs.StoredTree.{ListsTree, AreFilesOf}
-use Rattle.file_maps.specs.Grafts.{or_else, Grafts, is_small}
+use Rattle.file_maps.specs.Grafts.{Grafts, content_fault, is_small, or_else, tree_fault}
 use Rattle.file_maps.proofs.Apart.{both_true, from_both, apart_below, all-weaker, filter-all}
 use Rattle.file_maps.proofs.Puts.{true-T, MayPut, AreFiles-filter, length-put_all, sorted-put_all}
 use Rattle.file_maps.proofs.Maps.{len-of}
 use Rattle.file_maps.proofs.Edited.{kept, edited-is, all_short}
 use Rattle.file_maps.proofs.Listing.{IsSound, tree-only, apart-moved}
-use Rattle.file_maps.proofs.Standing.{no_fault}
+use Rattle.file_maps.proofs.Standing.{the_summary}
 
 -- ---- limits
 
@@ -110,6 +114,29 @@ small_if top held fs s h apart is all =
 
 -- ---- what a call answers
 
+-- a tree that has a summary is not refused
+pub no_fault : (os : List Object) (id : List ℕ) (fs : Listed) → ListsPlain os id fs
+    → tree_fault os id ≡ None
+no_fault os id fs t =
+    let s = the_summary (sum_in os id) t.plain in
+    ap (λ (o : Option Content). content_fault o (sum_in os id)) t.tree.tree.content
+    ∙ ap (λ (o : Option Summary). content_fault (Some (tree_content t.tree.direct)) o) s.1
+
+-- and no other is let in
+pub unrefused-summary : (os : List Object) (id : List ℕ) → tree_fault os id ≡ None
+    → HasSummary os id
+unrefused-summary os id h = by (object_named id os) (sum_in os id) h
+  where
+    by : (o : Option Content) (s : Option Summary) → content_fault o s ≡ None → IsSome s
+    by None s e = cc e
+    by (Some c) None e = cc e
+    by (Some c) (Some s) e = refl
+
+-- where neither refuses, each does not
+pub or_parts : (a b : Option Fault) → or_else a b ≡ None → (a ≡ None) × (b ≡ None)
+or_parts None b h = (refl, h)
+or_parts (Some e) b h = cc h
+
 -- the files of a tree are its only ones
 pub the_files : (os : List Object) (id : List ℕ) (fs : Listed) → ListsTree os id fs
     → AreFilesOf os id fs
@@ -117,14 +144,14 @@ the_files os id fs t = record { listed = t; only = λ others u. tree-only os id 
 
 module _ {A : Type 0} (os : List Object) (id : List ℕ) (path : Path) (old : FileMap) where
   -- the files of the tree were put, or refused
-  pub grafts-edits : (result : Result A Fault) (new : FileMap) (fs : Listed) → ListsTree os id fs
+  pub grafts-edits : (result : Result A Fault) (new : FileMap) (fs : Listed) → ListsPlain os id fs
       → Edits result old new (put_fault (moved path fs) (put_tree_at old path fs)) (put_tree_at old path fs)
       → Grafts result os id path old new
   grafts-edits result new fs t e = record {
     files = fs;
-    listed = λ _. the_files os id fs t;
+    listed = λ _. the_files os id fs t.tree;
     edits =
         subst
         (λ (o : Option Fault). Edits result old new (or_else o (put_fault (moved path fs) (put_tree_at old path fs))) (put_tree_at old path fs))
-        (sym (no_fault os id t.direct t.tree)) e;
+        (sym (no_fault os id fs t)) e;
   }

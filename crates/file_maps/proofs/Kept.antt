@@ -21,8 +21,10 @@ use Rattle.tenant_tables.specs.View.{View, Entries, entry_named, summary_of}
 use Rattle.tenant_tables.specs.Objects.{objects}
 use Rattle.tenant_tables.specs.IsBackedBy.{IsBackedBy}
 use Rattle.tenant_tables.specs.Adding.{store_fault, Adds}
-use Rattle.tenant_tables.specs.Trees.{FitsTree, SummedAfter, IsSummed}
+use Rattle.tenant_tables.specs.Summed.{SummedAfter, IsSummed}
+use Rattle.tenant_tables.specs.Trees.{FitsTree}
 use Rattle.tenant_tables.proofs.HoldLemmas.{object_named-objects}
+use Rattle.tenant_tables.proofs.PlainSums.{summed-tree, tree-summed}
 use Rattle.tenant_tables.proofs.SummaryLemmas.{SummedAfter-same}
 use Rattle.file_maps.proofs.Apart.{both_true}
 
@@ -68,8 +70,10 @@ module _ (digest : List ℕ → List ℕ) (p q : Cells) (old new : View) (c : Co
   same_tree i key e t stands tree fits at has same =
       let bytes : c.bytes ≡ (content p e.slot).bytes = (bytes_eq-Decides c.bytes (content p e.slot).bytes).0 (both_true (bytes_eq (kind_word c.kind) (kind_word (content p e.slot).kind)) (bytes_eq c.bytes (content p e.slot).bytes) same).1 in
       let there : SummedAfter (take i old.entries) (content p e.slot) (Some t) = subst (λ (o : Option Summary). SummedAfter (take i old.entries) (content p e.slot) o) has (stands.summed i key e at) in
+      let kind_is : (content p e.slot).kind ≡ kind.Tree = (summed-tree (take i old.entries) (content p e.slot) t there).0 in
       SummedAfter-same i old.entries (content p e.slot) (Some t) (Some s) there
-      (there.0, subst (λ (b : List ℕ). FitsTree old.entries b s) bytes fits)
+      (subst (λ (d : Content). SummedAfter old.entries d (Some s)) (λ j. record { kind = sym kind_is j; bytes = bytes j })
+      (tree-summed old.entries c.bytes s fits))
 
   pub summaries-kept : IsBackedBy digest p old.entries → c.kind ≡ kind.Tree
       → FitsTree old.entries c.bytes s

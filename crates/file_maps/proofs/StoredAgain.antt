@@ -51,12 +51,13 @@ free id c os h short =
     let fits : nat_lt CONTENTS_LIMIT (length c.bytes) ≡ false = le-ltb _ _ short in
     rw (fits, h, (same_content-decides c c).1 refl) refl
 
-module _ (digest : List ℕ → List ℕ) (os : List Object) (good : AreTreesGood digest os) where
-  pub filled-in : (id : List ℕ) (es : List TreeEntry) → HasTree os id es
-      → AllByRecursion (IsFilled os) es
-  filled-in id es h = recursion_from_All (IsFilled os) es (good.filled id es h)
+module _ (digest : List ℕ → List ℕ) (os : List Object) (Meant : List ℕ → Type 0)
+    (good : AreTreesGood digest os Meant) where
+  pub filled-in : (id : List ℕ) (es : List TreeEntry) → HasTree os id es → Meant id
+      → AllByRecursion (IsFilled os Meant) es
+  filled-in id es h meant = recursion_from_All (IsFilled os Meant) es (good.filled id es h meant)
 
-  pub inside-some : (e : TreeEntry) (inside : List TreeEntry) → IsFilled os e → e.mode ≡ mode.Directory
+  pub inside-some : (e : TreeEntry) (inside : List TreeEntry) → IsFilled os Meant e → e.mode ≡ mode.Directory
       → HasTree os e.id inside → inside ≢ []
   inside-some e inside h is has =
       let t = h is in subst (λ (x : List TreeEntry). x ≢ [])
@@ -64,11 +65,11 @@ module _ (digest : List ℕ → List ℕ) (os : List Object) (good : AreTreesGoo
 
   -- entries list files
   pub lists-some : {es : List TreeEntry} {fs : Listed} → Lists os es fs
-      → AllByRecursion (IsFilled os) es → es ≢ [] → fs ≢ []
+      → AllByRecursion (IsFilled os Meant) es → es ≢ [] → fs ≢ []
   lists-some nothing h ne = absurd (ne refl)
   lists-some (first_file e es files file l) h ne = λ x. cc x
   lists-some (first_directory e es inside [] files is has sub l) h ne =
-      absurd (lists-some sub (filled-in e.id inside has) (inside-some e inside h.0 is has) refl)
+      absurd (lists-some sub (filled-in e.id inside has (h.0 is).meant) (inside-some e inside h.0 is has) refl)
   lists-some (first_directory e es inside (f ∷ below) files is has sub l) h ne = λ x. cc x
 
   -- ---- all trees
@@ -83,7 +84,7 @@ module _ (digest : List ℕ → List ℕ) (os : List Object) (good : AreTreesGoo
 
   -- the groups of what entries list are these entries again, and their trees are there
   listed-again : {es : List TreeEntry} {fs : Listed} → Lists os es fs → (n : ℕ)
-      → depth_of fs ≤ suc n → Distinct es → AllByRecursion (IsFilled os) es
+      → depth_of fs ≤ suc n → Distinct es → AllByRecursion (IsFilled os Meant) es
       → (map (direct_of digest n) (grouped fs) ≡ es)
       × AllByRecursion Held (flat_map (group_trees digest n) (grouped fs))
   listed-again nothing n deep d h = (refl, tt)
@@ -95,7 +96,7 @@ module _ (digest : List ℕ → List ℕ) (os : List Object) (good : AreTreesGoo
             rest.1,
       )
   listed-again (first_directory e es inside [] files is has sub l) n deep d h =
-      absurd (lists-some sub (filled-in e.id inside has) (inside-some e inside h.0 is has) refl)
+      absurd (lists-some sub (filled-in e.id inside has (h.0 is).meant) (inside-some e inside h.0 is has) refl)
   listed-again (first_directory e es inside (([], x) ∷ below) files is has sub l) n deep d h =
       absurd ((tree-sound os e.id (([], x) ∷ below)
       (record { direct = inside; tree = has; lists = sub })).0.below_the_root refl)
@@ -106,7 +107,7 @@ module _ (digest : List ℕ → List ℕ) (os : List Object) (good : AreTreesGoo
       (suc n) deep d h =
       let fs : Listed = ((c ∷ q), x) ∷ below in
       let inner = listed-again sub n (depth-below e.name fs files (suc n) deep)
-      (distinct inside has.entries.names_are_distinct) (filled-in e.id inside has) in
+      (distinct inside has.entries.names_are_distinct) (filled-in e.id inside has (h.0 is).meant) in
       let rest = listed-again l (suc n)
       (depth-later (moved (e.name ∷ []) fs) files (suc (suc n)) deep) d.1 h.1 in
       let same = moved-grouped e.name ((c ∷ q), x) below files (lists-begin e.name l d.0) in
@@ -130,38 +131,38 @@ module _ (digest : List ℕ → List ℕ) (os : List Object) (good : AreTreesGoo
 
   -- ---- the tree of a name
 
-  no_entries : (es : List TreeEntry) → Lists os es [] → AllByRecursion (IsFilled os) es → es ≡ []
+  no_entries : (es : List TreeEntry) → Lists os es [] → AllByRecursion (IsFilled os Meant) es → es ≡ []
   no_entries [] l h = refl
   no_entries (e ∷ es) l h = absurd (lists-some l h (λ x. cc x) refl)
 
-  pub entries-again : (id : List ℕ) (fs : Listed) (t : ListsTree os id fs) (n : ℕ)
+  pub entries-again : (id : List ℕ) (fs : Listed) (t : ListsTree os id fs) → Meant id → (n : ℕ)
       → depth_of fs ≤ n → entries_within digest n fs ≡ t.direct
-  entries-again id [] t zero deep =
+  entries-again id [] t meant zero deep =
       entries-nil digest 0 [] refl
-      ∙ sym (no_entries t.direct t.lists (filled-in id t.direct t.tree))
-  entries-again id (([], x) ∷ fs) t zero deep =
+      ∙ sym (no_entries t.direct t.lists (filled-in id t.direct t.tree meant))
+  entries-again id (([], x) ∷ fs) t meant zero deep =
       absurd ((tree-sound os id (([], x) ∷ fs) t).0.below_the_root refl)
-  entries-again id (((c ∷ q), x) ∷ fs) t zero deep = absurd (omega arith)
-  entries-again id fs t (suc n) deep =
+  entries-again id (((c ∷ q), x) ∷ fs) t meant zero deep = absurd (omega arith)
+  entries-again id fs t meant (suc n) deep =
       step digest n fs
       ∙ (listed-again t.lists n deep (distinct t.direct t.tree.entries.names_are_distinct)
-      (filled-in id t.direct t.tree)).0
+      (filled-in id t.direct t.tree meant)).0
 
-  pub trees-held : (id : List ℕ) (fs : Listed) (t : ListsTree os id fs) (n : ℕ) → depth_of fs ≤ n
-      → AllByRecursion Held (trees_within digest n fs)
-  trees-held id fs t zero deep =
+  pub trees-held : (id : List ℕ) (fs : Listed) (t : ListsTree os id fs) → Meant id → (n : ℕ)
+      → depth_of fs ≤ n → AllByRecursion Held (trees_within digest n fs)
+  trees-held id fs t meant zero deep =
       subst (AllByRecursion Held) (sym (trees-nil digest fs)) (
         held id t.direct [] t.tree
-            (sym (entries-nil digest 0 fs refl) ∙ entries-again id fs t 0 deep),
+            (sym (entries-nil digest 0 fs refl) ∙ entries-again id fs t meant 0 deep),
         tt,
       )
-  trees-held id fs t (suc n) deep =
+  trees-held id fs t meant (suc n) deep =
       subst (AllByRecursion Held) (sym (trees-step digest n fs))
       (all-append Held (flat_map (group_trees digest n) (grouped fs))
       (entries_within digest (suc n) fs ∷ [])
       (listed-again t.lists n deep (distinct t.direct t.tree.entries.names_are_distinct)
-      (filled-in id t.direct t.tree)).1
-      (held id t.direct _ t.tree (entries-again id fs t (suc n) deep), tt))
+      (filled-in id t.direct t.tree meant)).1
+      (held id t.direct _ t.tree (entries-again id fs t meant (suc n) deep), tt))
 
   -- ---- storing trees that are there
 
@@ -184,14 +185,14 @@ module _ (digest : List ℕ → List ℕ) (os : List Object) (good : AreTreesGoo
       ∙ unrefused-all trees h.1
 
 -- the law
-pub stored-already : (digest : List ℕ → List ℕ) (os : List Object) → AreTreesGood digest os
-    → (id : List ℕ) (fs : Listed) → ListsTree os id fs
+pub stored-already : (digest : List ℕ → List ℕ) (os : List Object) (Meant : List ℕ → Type 0)
+    → AreTreesGood digest os Meant → (id : List ℕ) (fs : Listed) → ListsTree os id fs → Meant id
     → IsStoredAlready digest os id fs
-stored-already digest os good id fs t =
-    let same = entries-again digest os good id fs t (depth_of fs) (omega arith) in
-    let all = trees-held digest os good id fs t (depth_of fs) (omega arith) in record {
+stored-already digest os Meant good id fs t meant =
+    let same = entries-again digest os Meant good id fs t meant (depth_of fs) (omega arith) in
+    let all = trees-held digest os Meant good id fs t meant (depth_of fs) (omega arith) in record {
       tree = subst (HasTree os id) (sym same) t.tree;
       name = ap (tree_name digest) same ∙ sym (good.named id t.direct t.tree);
-      kept = kept-all digest os good (nested_trees digest fs) all;
-      unrefused = unrefused-all digest os good (nested_trees digest fs) all;
+      kept = kept-all digest os Meant good (nested_trees digest fs) all;
+      unrefused = unrefused-all digest os Meant good (nested_trees digest fs) all;
     }

@@ -29,7 +29,7 @@ use Rattle.tenant_tables.specs.Sums.{Sums, sum_of_entry, sum_of_tree, HasFiles, 
 use Rattle.file_maps.specs.FileMap.{Listed}
 use Rattle.file_maps.specs.Edits.{moved}
 use Rattle.file_maps.specs.Storable.{files_summary}
-use Rattle.file_maps.specs.StoredAgain.{IsFilled}
+use Rattle.file_maps.specs.StoredAgain.{Every, IsFilled}
 use Rattle.file_maps.specs.StoredFiles.{stored_files}
 use Rattle.file_maps.specs.StoredTree.{HasTree, file_from, Lists, nothing, first_file, first_directory, ListsTree}
 use Rattle.file_maps.specs.Trees.{tree_content}
@@ -304,17 +304,17 @@ module _ (digest : List ℕ → List ℕ) (os : List Object) (o : Object)
         (ap (λ (k : Kind). Some k) is) in
         let trees = good-trees digest (os ++ o ∷ []) good in
         let before = falls digest (os ++ o ∷ []) good o.id t.0 t.1 in
-        let filled = filled-in digest (os ++ o ∷ []) trees o.id t.0 t.1 in (
+        let filled = filled-in digest (os ++ o ∷ []) Every trees o.id t.0 t.1 tt in (
           t.0,
           record {
             has = t.1;
             files = all-weaker
                 (λ (e : TreeEntry). (e.mode ≡ mode.Directory → place_of e.id (os ++ o ∷ []) < place_of o.id (os ++ o ∷ []))
-                × IsFilled (os ++ o ∷ []) e)
+                × IsFilled (os ++ o ∷ []) Every e)
                 (HasFiles so_far)
                 (λ e h is. let inside = h.1 is in
                 directory-files e (h.0 is) inside.inside inside.tree inside.some)
-                t.0 (all-both _ (IsFilled (os ++ o ∷ [])) t.0 before filled);
+                t.0 (all-both _ (IsFilled (os ++ o ∷ []) Every) t.0 before filled);
           },
         )
 

@@ -8,6 +8,7 @@ pub mod Calls
 pub mod ByComponent
 pub mod Trees
 pub mod StoredTree
+pub mod PlainTrees
 pub mod Grafts
 pub mod Below
 pub mod Storing

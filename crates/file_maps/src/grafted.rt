@@ -13,12 +13,11 @@ use std::alloc::Global;
 use tenant_tables::{Objects, Summary};
 
 /// The summary of the stored tree of this name. `ObjectUnknown` (14) where no object has this name,
-/// `WrongKind` (15) where the object is not a tree. Nothing changes.
+/// `WrongKind` (15) where the object is no tree that has a summary. Nothing changes.
 pub fn tree_summary<N: Naming>(objects: &Objects<'_, N>, id: &Name) -> Result<Summary, Fault>
     ensures tree { IfOk result (λ s. sum_in objects.now id.now ≡ Some s) }
     ensures refusal { IfErr result (λ e. tree_fault objects.now id.now ≡ Some e) }
 {
-    objects.are_backed();
     match objects.summary(id) {
         Some(summary) => Ok(summary),
         None => match objects.get(id) {

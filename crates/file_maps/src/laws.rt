@@ -15,10 +15,10 @@ ghost use Rattle.file_maps.specs.{HeldFiles.{IsFileHeld}, Edits.{files_at, with_
 ghost use Rattle.file_maps.specs.Trees.{grouped, nested_trees, tree_entries, tree_id};
 ghost use Rattle.file_maps.specs.ByComponent.{AreByDirectory, IsByFirstComponent};
 ghost use Rattle.file_maps.specs.{ByComponent.{IsTreeByComponent}, Storable.{files_summary}};
-ghost use Rattle.file_maps.specs.StoredTree.{HasTree, ListsTree, AreFilesOf};
+ghost use Rattle.file_maps.specs.{PlainTrees.{HasSummary, ListsPlain}, StoredTree.{ListsTree, AreFilesOf}};
 ghost use Rattle.file_maps.specs.{Storing.{trees_fault, with_trees}, StoredFiles.{stored_files}};
 ghost use Rattle.file_maps.specs.GoodTrees.{IsTreeOfFiles, IsRepository, StayGood};
-ghost use Rattle.file_maps.specs.StoredAgain.{AreTreesGood, IsStoredAlready};
+ghost use Rattle.file_maps.specs.StoredAgain.{AreTreesGood, Every, IsStoredAlready};
 ghost use Rattle.std.specs.FinMap as finmap;
 ghost use Rattle.git_model.specs.declared.kind.Kind.TheVariants as kind;
 
@@ -44,25 +44,28 @@ pub fn trees_by_directory()
         → AreByDirectory digest m top (nested_trees digest (files_at m top)) }
 {}
 
-/// The files of a stored tree make the same tree again: it has the same name, and storing them adds
-/// nothing.
+/// The files of a stored tree that has a summary make the same tree again: it has the same name, and
+/// storing them adds nothing.
 pub fn stored_trees_stay()
-    ensures { (digest : List ℕ → List ℕ) (os : List Object) → AreTreesGood digest os
-        → (id : List ℕ) (files : Listed) → ListsTree os id files
+    ensures { (digest : List ℕ → List ℕ) (os : List Object)
+        → AreTreesGood digest os (HasSummary os)
+        → (id : List ℕ) (files : Listed) → ListsPlain os id files
         → IsStoredAlready digest os id files }
 {}
 
 /// The trees of a table that stands in its pool are good.
 pub fn table_trees_are_good()
     ensures { (digest : List ℕ → List ℕ) (pool : Cells) (entries : Entries)
-        → IsBackedBy digest pool entries → AreTreesGood digest (objects pool entries) }
+        → IsBackedBy digest pool entries
+        → AreTreesGood digest (objects pool entries) (HasSummary (objects pool entries)) }
 {}
 
-/// So the files of each of them, as `stored_files` reads them, make the same tree again.
+/// So the files of each of them that has a summary, as `stored_files` reads them, make the same tree
+/// again.
 pub fn table_trees_stay()
     ensures { (digest : List ℕ → List ℕ) (pool : Cells) (entries : Entries)
         → IsBackedBy digest pool entries
-        → (id : List ℕ) (es : List TreeEntry) → HasTree (objects pool entries) id es
+        → (id : List ℕ) → HasSummary (objects pool entries) id
         → IsStoredAlready digest (objects pool entries) id
         (stored_files (objects pool entries) id) }
 {}
@@ -72,7 +75,7 @@ pub fn table_trees_stay()
 pub fn table_summaries_are_of_files()
     ensures { (digest : List ℕ → List ℕ) (pool : Cells) (entries : Entries)
         → IsBackedBy digest pool entries
-        → (id : List ℕ) (files : Listed) → ListsTree (objects pool entries) id files
+        → (id : List ℕ) (files : Listed) → ListsPlain (objects pool entries) id files
         → summary_of id entries ≡ Some (files_summary files) }
 {}
 
@@ -98,10 +101,12 @@ pub fn files_are_the_stored_files()
         → (id : List ℕ) (files : Listed) → AreFilesOf os id files → files ≡ stored_files os id }
 {}
 
-/// The trees of good objects are those of file maps, so `stored_trees_stay` holds for them.
+/// The trees of good objects are those of file maps, and the files of each make the same tree again.
 pub fn good_objects_have_good_trees()
     ensures { (digest : List ℕ → List ℕ) (os : List Object) → AreObjects digest os
-        → AreTreesGood digest os }
+        → AreTreesGood digest os Every
+        × ((id : List ℕ) (files : Listed) → ListsTree os id files
+        → IsStoredAlready digest os id files) }
 {}
 
 /// Good objects have trees that fit, each after those before it, exactly where the files of each

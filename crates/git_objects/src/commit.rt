@@ -4,11 +4,12 @@ ghost use Rattle.std.specs.Prelude.{◌≡◌, ◌≢◌, ℕ, List, ◌++◌, l
 ghost use Rattle.std.specs.{Prelude.{IsNone, IsSomeAnd, OnOk, OnErr, codes}, List.{flat_map}};
 ghost use Rattle.std.specs.Prelude.{◌↔◌, ◌≤◌, IsTrue, MatchOption};
 ghost use Rattle.std.specs.Option.{option_map, option_copied};
-ghost use Rattle.git_model.specs.{Readable.{IsReadable}, Limits.{parents_limit}};
+ghost use Rattle.git_model.specs.{Readable.{AreNameDigits, IsReadable}, Limits.{parents_limit}};
 ghost use Rattle.git_model.specs.declared.kind.Kind.TheVariants as kind;
 ghost use Rattle.git_objects.specs.DigitParents.{AreDigitParents, IsAfterParents};
 ghost use Rattle.git_model.specs.{ObjectName.{IsObjectName}, CommitReading.{commit_read}};
-ghost use Rattle.git_model.specs.Commit.{Commit, CanWriteCommit, commit_contents, name_line};
+ghost use Rattle.git_model.specs.HeaderReading.{id_of_digits};
+ghost use Rattle.git_model.specs.Commit.{Commit, CanWriteCommit, commit_contents, line, name_line};
 ghost use Rattle.git_objects.specs.{Parts.{commit_of}, Fronts.{IsFront}, HeaderParts.{end_lines}};
 ghost use Rattle.git_objects.specs.CommitParts.{AreParents, IsIdents, idents_text, IsEncoded};
 
@@ -194,6 +195,26 @@ pub fn read_commit_tree(contents: &[u8]) -> Option<Name>
         return None;
     };
     Some(first.0)
+}
+
+/// Reads the first line of the contents of any commit that Git can walk, the name of its tree, as
+/// `look_commit` reads it. The other lines are not read. Takes no memory.
+///
+/// `None` if the contents do not begin with `tree`, a space, 40 hexadecimal digits of either case
+/// and a line end.
+pub fn look_commit_tree(contents: &[u8]) -> Option<Name>
+    ensures first { MatchOption result ((digits rest : List ℕ) → AreNameDigits digits
+        → contents.now ≢ line (codes "tree ") digits ++ rest)
+        (λ tree. (digits : List ℕ) × (rest : List ℕ) × AreNameDigits digits
+        × (contents.now ≡ line (codes "tree ") digits ++ rest)
+        × (tree ≡ id_of_digits digits)) }
+    ensures commit { IsReadable kind.Commit contents.now
+        → result ≡ Some (commit_read contents.now).tree }
+{
+    let Some(first) = take_digits_line(b"tree ", contents) else {
+        return None;
+    };
+    Some(first.0.0)
 }
 
 // As `take_parents`, for digits of either case.

@@ -16,7 +16,9 @@ mod tree;
 mod tree_entry;
 
 pub use byte_devices::{Counted, DeviceFault, FailingReader, FailingWriter, write_all};
-pub use commit::{CommitParts, look_commit, read_commit, read_commit_tree, write_commit};
+pub use commit::{
+    CommitParts, look_commit, look_commit_tree, read_commit, read_commit_tree, write_commit,
+};
 pub use commit_time::time_of;
 pub use git_model::{FileMode, Kind};
 pub use git_names::{

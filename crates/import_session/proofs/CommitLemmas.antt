@@ -7,8 +7,8 @@ use Rattle.content_pool.specs.Pool.{Cells}
 use Rattle.tenant_tables.specs.Objects.{objects}
 use Rattle.tenant_tables.specs.View.{View}
 use Rattle.file_maps.specs.declared.fault.Fault.{Fault as FilesFault}
-use Rattle.file_maps.specs.Edits.{put_fault}
 use Rattle.file_maps.specs.FileMap.{FileMap}
+use Rattle.file_maps.specs.Grafts.{graft_fault}
 use Rattle.file_maps.specs.StoredFiles.{commit_map, stored_files, tree_of_commit}
 use Rattle.kept_files.specs.declared.kept_files.KeptCommit.{KeptCommit}
 use Rattle.kept_files.specs.KeptCommits.{AreBranches}
@@ -160,7 +160,7 @@ started_alike : (os : List Object) (id message : List ℕ) (header : Header) (fi
 started_alike os id message header files =
     changed_alike (record (begun_on header message files) { parents = id ∷ [] })
     (record (begun header message) { parents = id ∷ [] }) (commit_map os id)
-    (put_fault (stored_files os (tree_of_commit os id)) (commit_map os id)) refl
+    (graft_fault os (tree_of_commit os id) (stored_files os (tree_of_commit os id)) (commit_map os id)) refl
 
 pub begun_on_first : (os : List Object) (first : Option (List ℕ)) (header : Header)
     (message : List ℕ) (files : FileMap)

@@ -5,9 +5,8 @@ use Rattle.std.specs.Map.{lookup}
 use Rattle.std.specs.Option.{option_and_then}
 use Rattle.std.specs.Str.{bytes_eq}
 use Rattle.std.proofs.lemmas.List.Elements.{All-head, All-tail, All-weaker}
-use Rattle.git_model.proofs.Readables.{objects_are}
 use Rattle.git_model.specs.declared.kind.Kind.TheVariants as kind
-use Rattle.git_model.specs.GoodRepository.{AreObjects}
+use Rattle.git_model.specs.HeldObjects.{AreHeld}
 use Rattle.git_model.specs.Peeling.{ComesFirstTo, at_once, later, is_of, next_to, peeled_to}
 use Rattle.git_model.specs.References.{kind_named, place_of}
 use Rattle.git_model.specs.Repository.{Object}
@@ -57,16 +56,16 @@ passes : {A : Type 0} (test : A → Bool) (next : A → Option A) {a c : A}
 passes test next (at_once a yea) = yea
 passes test next (later a b c nay e rest) = passes test next rest
 
-peeled_passes : (digest : List ℕ → List ℕ) (os : List Object) → AreObjects digest os
+peeled_passes : (digest : List ℕ → List ℕ) (os : List Object) → AreHeld digest os
     → (id end : List ℕ) → peeled_to os kind.Commit id ≡ Some end → is_of os kind.Commit end ≡ true
 unfolding peeled_to
 peeled_passes digest os good id end e =
     let test = is_of os kind.Commit in
     let next = next_to os kind.Commit in
     passes test next ((first_is test next (λ k. place_of k os)
-    (next_falls digest os (objects_are digest os good) kind.Commit) (length os) id end (place_within id os)).0 e)
+    (next_falls digest os good kind.Commit) (length os) id end (place_within id os)).0 e)
 
-pub peeled_commit : (digest : List ℕ → List ℕ) (os : List Object) → AreObjects digest os
+pub peeled_commit : (digest : List ℕ → List ℕ) (os : List Object) → AreHeld digest os
     → (id : List ℕ) → IfOk (resolved_or (peeled os kind.Commit id)) (IsCommitOf os)
 peeled_commit digest os good id = by_end (peeled_to os kind.Commit id) refl
   where
@@ -77,14 +76,14 @@ peeled_commit digest os good id = by_end (peeled_to os kind.Commit id) refl
 
 -- what a commit-ish stands for in `from`, `merge` and `alias` is a commit
 pub commit_good : (digest : List ℕ → List ℕ) (workspace : Workspace)
-    → AreObjects digest workspace.objects → (commit : CommitIsh)
+    → AreHeld digest workspace.objects → (commit : CommitIsh)
     → IfOk (commit_in workspace commit) (IsCommitOf workspace.objects)
 commit_good digest workspace good commit =
     then_any (IsCommitOf workspace.objects) (named_in workspace commit) _
     (λ id. peeled_commit digest workspace.objects good id)
 
 pub start_good : (digest : List ℕ → List ℕ) (workspace : Workspace)
-    → AreObjects digest workspace.objects → (ref : List ℕ) (from : CommitIsh)
+    → AreHeld digest workspace.objects → (ref : List ℕ) (from : CommitIsh)
     → IfOk (start_in workspace ref from) (IsCommitOf workspace.objects)
 start_good digest workspace good ref from =
     by_test (is_branch workspace ref from)

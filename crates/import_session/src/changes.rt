@@ -3,7 +3,7 @@
 
 ghost use Rattle.std.specs.Prelude.{List, ℕ, OnOk};
 ghost use Rattle.content_pool.specs.Pool.{Cells};
-ghost use Rattle.git_model.specs.{GoodRepository.{AreObjects}, RefStore.{RefStore}};
+ghost use Rattle.git_model.specs.RefStore.{RefStore};
 ghost use Rattle.git_model.specs.Repository.{Object};
 ghost use Rattle.tenant_tables.specs.{Objects.{objects}, Room.{HasHoldsLeftBeside}, View.{View}};
 ghost use Rattle.tenant_tables.specs.IsBackedBy.{IsBackedBy};
@@ -38,9 +38,7 @@ fn modify<N: Naming>(
 ) -> Result<(), Fault>
     requires stands { IsBackedBy N.digest_of pool.now table.now.entries }
     requires held { FilesStand N.digest_of (state_shown state.old) pool.now table.now }
-    ensures done { (refs : RefStore) (out : List ℕ) → AreObjects N.digest_of
-        (objects pool.now table.now.entries)
-        → CarriesOut
+    ensures done { (refs : RefStore) (out : List ℕ) → CarriesOut
         (files_changed N.digest_of (Modify mode object path.now)
         (workspace_in (state_shown state.old) pool.now table.now refs))
         (workspace_in (state_shown state.new) pool.now table.now refs) out out result }
@@ -196,8 +194,7 @@ pub fn carry_out_change<N: Naming>(
     requires room { HasHoldsLeftBeside pool.old table.old.entries }
     requires held { FilesStand N.digest_of (state_shown state.old) pool.old table.old }
     ensures keeps { Keeps N.digest_of pool.old table.old pool.new table.new }
-    ensures done { (refs : RefStore) (out : List ℕ)
-        → AreObjects N.digest_of (objects pool.old table.old.entries) → CarriesOut
+    ensures done { (refs : RefStore) (out : List ℕ) → CarriesOut
         (files_changed N.digest_of (change_shown change.now)
         (workspace_in (state_shown state.old) pool.old table.old refs))
         (workspace_in (state_shown state.new) pool.new table.new refs) out out result }

@@ -2,7 +2,7 @@
 
 ghost use Rattle.std.specs.Prelude.{◌≡◌, List, ℕ, OnOk};
 ghost use Rattle.content_pool.specs.Pool.{Cells};
-ghost use Rattle.git_model.specs.GoodRepository.{AreObjects};
+ghost use Rattle.git_model.specs.HeldObjects.{AreHeld};
 ghost use Rattle.tenant_tables.specs.{Objects.{objects}, IsBackedBy.{IsBackedBy}, View.{View}};
 ghost use Rattle.stream_grammar.specs.Acts.{Begin, Author, Committer, Encoding, From, Merge};
 ghost use Rattle.stream_grammar.specs.Shown.{commit_command_shown, commit_shown as said_shown};
@@ -103,7 +103,7 @@ fn start_from<N: Naming>(
     requires chain { ChainStands N.digest_of (objects pool.now table.now.entries) state.old.chain }
     ensures done { let workspace = workspace_in (state_shown state.old) pool.now table.now refs.now
         in
-        AreObjects N.digest_of workspace.objects → Leaves
+        AreHeld N.digest_of workspace.objects → Leaves
         (commit_started workspace (said_shown from.now)
         (shown_in workspace.objects commit.old))
         (shown_in workspace.objects commit.new) result }
@@ -127,7 +127,7 @@ fn merge<N: Naming>(
 ) -> Result<(), Fault>
     requires held { IsCommitHeld objects.now commit.old }
     requires chain { ChainStands N.digest_of objects.now state.old.chain }
-    ensures done { (committed : ℕ) → AreObjects N.digest_of objects.now → Leaves
+    ensures done { (committed : ℕ) → AreHeld N.digest_of objects.now → Leaves
         (commit_merged (workspace_over (state_shown state.old) objects.now committed refs.now)
         (said_shown other.now) (shown_in objects.now commit.old))
         (shown_in objects.now commit.new) result }
@@ -151,7 +151,7 @@ fn start_open<N: Naming>(
 ) -> Result<(), Fault>
     requires stands { IsBackedBy N.digest_of pool.now table.now.entries }
     requires held { FilesStand N.digest_of (state_shown state.old) pool.now table.now }
-    ensures done { (out : List ℕ) → AreObjects N.digest_of (objects pool.now table.now.entries)
+    ensures done { (out : List ℕ) → AreHeld N.digest_of (objects pool.now table.now.entries)
         → CarriesOut (commit_said (From (said_shown from.now))
         (workspace_in (state_shown state.old) pool.now table.now refs.now))
         (workspace_in (state_shown state.new) pool.now table.now refs.now) out out result }
@@ -172,7 +172,7 @@ fn merge_open<N: Naming>(
     other: &CommitIsh<'_>,
 ) -> Result<(), Fault>
     requires held { HoldsFiles N.digest_of objects.now (state_shown state.old) }
-    ensures done { (out : List ℕ) (committed : ℕ) → AreObjects N.digest_of objects.now
+    ensures done { (out : List ℕ) (committed : ℕ) → AreHeld N.digest_of objects.now
         → CarriesOut (commit_said (Merge (said_shown other.now))
         (workspace_over (state_shown state.old) objects.now committed refs.now))
         (workspace_over (state_shown state.new) objects.now committed refs.now) out out result }

@@ -1,7 +1,7 @@
 //! How a commit opens, at its message: git-fast-import(1), "commit".
 
 ghost use Rattle.std.specs.Prelude.{◌≡◌, ◌≢◌, List, ℕ, Ok, Err, IfOk, IfSome, OnOk, MatchResult};
-ghost use Rattle.git_model.specs.{GoodRepository.{AreObjects}, RefStore.{RefStore}};
+ghost use Rattle.git_model.specs.{HeldObjects.{AreHeld}, RefStore.{RefStore}};
 ghost use Rattle.git_model.specs.Repository.{Object};
 ghost use Rattle.tenant_tables.specs.{Objects.{objects}, IsBackedBy.{IsBackedBy}};
 ghost use Rattle.tree_build.specs.Branch.{IsBranch};
@@ -92,7 +92,7 @@ fn start<N: Naming>(
 ) -> Result<(), Fault>
     requires stands { IsBackedBy N.digest_of pool.now table.now.entries }
     requires held { IsCommitHeld (objects pool.now table.now.entries) commit.old }
-    ensures started { let os = objects pool.now table.now.entries in AreObjects N.digest_of os
+    ensures started { let os = objects pool.now table.now.entries in AreHeld N.digest_of os
         → IsTipCommit os first → Leaves (started_or_cleared os first (shown_in os commit.old))
         (shown_in os commit.new) result }
     ensures held { OnOk result (IsCommitHeld (objects pool.now table.now.entries) commit.new) }
@@ -119,7 +119,7 @@ fn begin<N: Naming>(
 ) -> Result<OpenCommit, Fault>
     requires stands { IsBackedBy N.digest_of pool.now table.now.entries }
     requires files { IsBranch (objects pool.now table.now.entries) files }
-    ensures begun { let os = objects pool.now table.now.entries in AreObjects N.digest_of os
+    ensures begun { let os = objects pool.now table.now.entries in AreHeld N.digest_of os
         → IsTipCommit os first → let new = begun (header_shown header) message.now in
         MatchResult result (λ commit. begun_from os first new ≡ Ok (shown_in os commit))
         (λ fault. fault ≢ Fault.Memory → begun_from os first new ≡ Err fault) }

@@ -24,6 +24,8 @@ use Rattle.file_maps.specs.declared.fault.Fault.{Fault as FilesFault}
 use Rattle.file_maps.specs.Edits.{copied, files_at, move_fault, moved, put_at, put_fault, put_tree_at, renamed}
 use Rattle.file_maps.specs.FileMap.{AreFiles, FileMap, Listed, Path, listed}
 use Rattle.file_maps.specs.StoredFiles.{stored_files, tree_of_commit}
+use Rattle.file_maps.specs.Grafts.{graft_fault, tree_fault}
+use Rattle.file_maps.proofs.Grafting.{or_parts}
 use Rattle.file_maps.proofs.EditedMaps.{AllEntries, IsMapOf, copied-is, file-put-is, renamed-is, without-is}
 use Rattle.file_maps.proofs.StoredPut.{stored-put}
 use Rattle.open_commits.specs.declared.fault.Fault.{Fault}
@@ -84,9 +86,11 @@ tree_put_has : (digest : List ℕ → List ℕ) (os : List Object) → AreObject
     → (tree : List ℕ) → kind_named tree os ≡ Some kind.Tree
     → IfOk (tree_put os path tree commit) HasFiles
 tree_put_has digest os good commit has path is tree k =
-    changed_has commit (put_tree_at commit.files path (stored_files os tree))
-    (put_fault (moved path (stored_files os tree)) (put_tree_at commit.files path (stored_files os tree)))
-    (stored-put digest os good commit.files has tree k path is)
+    let files = stored_files os tree in
+    let after = put_tree_at commit.files path files in
+    changed_has commit after (graft_fault os tree (moved path files) after) (λ none.
+    stored-put digest os good commit.files has tree k path is
+    (or_parts (tree_fault os tree) (put_fault (moved path files) after) none).1)
 
 -- ---- what a change names
 

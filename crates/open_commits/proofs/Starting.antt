@@ -6,7 +6,8 @@ use Rattle.git_model.specs.Repository.{Object}
 use Rattle.git_paths.specs.Order.{path_cmp, path_cmp-total, path_cmp-IsAntisymmetric}
 use Rattle.file_maps.specs.declared.fault.Fault.{Fault as FilesFault}
 use Rattle.file_maps.specs.FileMap.{Listed, FileMap, is_apart}
-use Rattle.file_maps.specs.Edits.{moved, with_files, put_tree_at, put_fault}
+use Rattle.file_maps.specs.Edits.{moved, with_files, put_tree_at}
+use Rattle.file_maps.specs.Grafts.{graft_fault}
 use Rattle.file_maps.specs.StoredFiles.{stored_files, tree_of_commit, commit_map}
 use Rattle.open_commits.specs.declared.fault.Fault.{Fault}
 use Rattle.open_commits.specs.declared.fault.Fault.TheVariants as fault
@@ -46,12 +47,13 @@ pub starts : (os : List Object) (id tree : List ℕ) (commit : OpenCommit)
     → tree ≡ tree_of_commit os id
     → started_from os id commit ≡ with_parent id (tree_put os [] tree commit)
 starts os id tree commit is =
-    let files = stored_files os (tree_of_commit os id) in
-    parent-changed id commit (commit_map os id) (put_fault files (commit_map os id))
-    ∙ ap (λ (m : FileMap). with_parent id (changed_to commit m (put_fault files m)))
+    let own = tree_of_commit os id in
+    let files = stored_files os own in
+    parent-changed id commit (commit_map os id) (graft_fault os own files (commit_map os id))
+    ∙ ap (λ (m : FileMap). with_parent id (changed_to commit m (graft_fault os own files m)))
     (sym (root-put commit.files files))
     ∙ ap (λ (l : Listed). with_parent id (changed_to commit (put_tree_at commit.files [] files)
-    (put_fault l (put_tree_at commit.files [] files)))) (sym (moved-root files))
+    (graft_fault os own l (put_tree_at commit.files [] files)))) (sym (moved-root files))
     ∙ ap (λ (t : List ℕ). with_parent id (tree_put os [] t commit)) (sym is)
 
 pub start-done : (os : List Object) (id tree : List ℕ) (parents : List (List ℕ))

@@ -1,6 +1,6 @@
 -- What good objects have under the name of a commit.
-use Rattle.std.proofs.Common.{◌≡◌, ℕ, List, All, Option, None, Some, Result, Ok, Err, refl, sym, ap, ◌∙◌, subst}
-use Rattle.std.specs.Prelude.{MatchResult, unwrap_or}
+use Rattle.std.proofs.Common.{◌≡◌, ℕ, List, All, Option, None, Some, refl, sym, ap, ◌∙◌, subst}
+use Rattle.std.specs.Prelude.{unwrap_or}
 use Rattle.std.specs.Option.{option_map}
 use Rattle.std.proofs.lemmas.List.Elements.{All-head}
 use Rattle.git_model.specs.declared.kind.Kind.{Kind}
@@ -11,8 +11,9 @@ use Rattle.git_model.specs.Content.{Content, content_from, no_content}
 use Rattle.git_model.specs.Repository.{Object, object_named}
 use Rattle.git_model.specs.References.{references_in, kind_named, place_of}
 use Rattle.git_model.specs.GoodRepository.{IsValid, IsObject, StandsBefore, AreObjects}
+use Rattle.git_model.specs.HeldObjects.{AreHeld, IsHeldObject}
+use Rattle.git_model.specs.Readable.{IsReadable}
 use Rattle.git_model.proofs.Places.{stands_at, at_place}
-use Rattle.file_maps.specs.Grafts.{tree_fault, content_fault, kind_fault}
 use Rattle.file_maps.specs.StoredFiles.{tree_of_commit}
 
 -- a commit stands under its name, and its tree is there
@@ -53,33 +54,31 @@ module _ (digest : List ℕ → List ℕ) (os : List Object) (good : AreObjects 
   pub stored_commit : (id : List ℕ) → kind_named id os ≡ Some kind.Commit → IsStoredCommit os id
   stored_commit id k = stored_from id (object_named id os) refl k
 
--- a tree that is there is no fault
-no_fault : (o : Option Content) → option_map (λ (c : Content). c.kind) o ≡ Some kind.Tree
-    → content_fault o ≡ None
-no_fault None e = cc
-no_fault (Some c) e = let is : c.kind ≡ kind.Tree = cc in ap kind_fault is
+-- ---- a commit among held objects
 
-pub tree_unrefused : (os : List Object) (id : List ℕ) → kind_named id os ≡ Some kind.Tree
-    → tree_fault os id ≡ None
-tree_unrefused os id k = no_fault (object_named id os) k
+-- its contents can be read
+pub held_commit : (digest : List ℕ → List ℕ) (os : List Object) → AreHeld digest os → (id : List ℕ)
+    → kind_named id os ≡ Some kind.Commit → (k : Kind) (bytes : List ℕ)
+    → Some (content_from k bytes) ≡ object_named id os → IsReadable kind.Commit bytes
+held_commit digest os held id named k bytes found =
+    let at = stands_at id os (content_from k bytes) (sym found) in
+    let object : IsHeldObject digest (record { id = id; content = content_from k bytes }) =
+    subst (IsHeldObject digest) at.object
+    (at_place (IsHeldObject digest) os (place_of id os) held.each at.within) in
+    let is : Some k ≡ Some kind.Commit =
+    ap (option_map (λ (c : Content). c.kind)) found ∙ named in
+    subst (λ (o : Option Kind). IsReadable (unwrap_or o k) bytes) is object.readable
 
-pub matched : {A E : Type 0} (P Q : A → Type 0) (F : E → Type 0) (r : Result A E)
-    → ((a : A) → P a → Q a) → MatchResult r P F → MatchResult r Q F
-matched P Q F (Ok a) f h = f a h
-matched P Q F (Err e) f h = h
+-- and say its tree
+pub told_tree : (os : List Object) (id : List ℕ) (k : Kind) (bytes : List ℕ)
+    → Some (content_from k bytes) ≡ object_named id os
+    → (commit_read bytes).tree ≡ tree_of_commit os id
+told_tree os id k bytes found =
+    ap (λ (o : Option Content). (commit_read (unwrap_or o no_content).bytes).tree) found
 
-pub told_bytes : (os : List Object) (id : List ℕ) (s : IsStoredCommit os id) (k : Kind)
-    (bytes : List ℕ) → Some (content_from k bytes) ≡ object_named id os → bytes ≡ s.bytes
-told_bytes os id s k bytes found =
-    ap (λ (o : Option Content). (unwrap_or o no_content).bytes) (found ∙ s.named)
-
--- the tree of a commit, as its contents give it
-pub told_tree : (os : List Object) (id : List ℕ) (s : IsStoredCommit os id) (bytes : List ℕ)
-    (tree : List ℕ) → bytes ≡ s.bytes → tree ≡ (commit_read bytes).tree
-    → (tree ≡ tree_of_commit os id) × (tree_fault os tree ≡ None)
-told_tree os id s bytes tree same is =
-    let read : tree ≡ (commit_read s.bytes).tree =
-    is ∙ ap (λ (b : List ℕ). (commit_read b).tree) same in (
-      read ∙ ap (λ (o : Option Content). (commit_read (unwrap_or o no_content).bytes).tree) (sym s.named),
-      ap (tree_fault os) read ∙ tree_unrefused os (commit_read s.bytes).tree s.tree,
-    )
+-- what is not there is none
+pub no_commit : {P : Type 0} (os : List Object) (id : List ℕ) → None ≡ object_named id os
+    → kind_named id os ≡ Some kind.Commit → P
+no_commit os id none named =
+    absurd
+    (let no : None ≡ Some kind.Commit = ap (option_map (λ (c : Content). c.kind)) none ∙ named in cc no)

@@ -15,6 +15,7 @@ use Rattle.git_model.specs.Repository.{Object, object_named}
 use Rattle.file_maps.specs.declared.entry.Entry.{Entry}
 use Rattle.file_maps.specs.Edits.{files_at, moved, put_at, put_tree_at, without, copied, renamed, put_fault, move_fault}
 use Rattle.file_maps.specs.FileMap.{Path}
+use Rattle.file_maps.specs.Grafts.{graft_fault}
 use Rattle.file_maps.specs.StoredFiles.{stored_files}
 use Rattle.stream_grammar.specs.declared.data_ref.DataRef.{DataRef}
 use Rattle.stream_grammar.specs.declared.data_ref.DataRef.TheVariants as data_ref
@@ -75,12 +76,12 @@ abbrev pub file_put : Path → Entry → OpenCommit → Result OpenCommit Fault
 file_put path e commit = let after = put_at commit.files path e in
     changed_to commit after (put_fault (moved path (([], e) ∷ [])) after)
 
--- Puts the files of a stored tree at and below a path, and replaces what is there. The empty tree
--- has no files, so that it only removes what is there.
+-- Puts the files of a stored tree at and below a path, and replaces what is there. The tree must
+-- have a summary. The empty tree has no files, so that it only removes what is there.
 abbrev pub tree_put : List Object → Path → List ℕ → OpenCommit → Result OpenCommit Fault
 tree_put os path tree commit = let files = stored_files os tree in
     let after = put_tree_at commit.files path files in
-    changed_to commit after (put_fault (moved path files) after)
+    changed_to commit after (graft_fault os tree (moved path files) after)
 
 -- 'M', by the mode: a directory stands for the files of its tree, any other mode for one file.
 abbrev pub modified : List Object → Marks → FileMode → DataRef → Path → OpenCommit

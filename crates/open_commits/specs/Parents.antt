@@ -4,7 +4,7 @@ use Rattle.git_model.specs.GoodRepository.{parents_limit}
 use Rattle.git_model.specs.Repository.{Object}
 use Rattle.file_maps.specs.declared.fault.Fault.{Fault as FilesFault}
 use Rattle.file_maps.specs.FileMap.{FileMap}
-use Rattle.file_maps.specs.Edits.{put_fault}
+use Rattle.file_maps.specs.Grafts.{graft_fault}
 use Rattle.file_maps.specs.StoredFiles.{stored_files, tree_of_commit, commit_map}
 use Rattle.open_commits.specs.declared.fault.Fault.{Fault}
 use Rattle.open_commits.specs.declared.fault.Fault.TheVariants as fault
@@ -16,12 +16,13 @@ abbrev pub changed_to : OpenCommit → FileMap → Option FilesFault → Result 
 changed_to commit files None = Ok (record commit { files = files })
 changed_to commit files (Some refusal) = Err (editing_fault refusal)
 
--- 'from': the commit becomes the only parent, and the files become those of its tree, unless they
--- exceed the limits of a branch.
+-- 'from': the commit becomes the only parent, and the files become those of its tree. They are
+-- refused if the tree has no summary, so that they cannot be those of a branch.
 abbrev pub started_from : List Object → List ℕ → OpenCommit → Result OpenCommit Fault
 started_from os id commit =
+    let tree = tree_of_commit os id in
     changed_to (record commit { parents = id ∷ [] }) (commit_map os id)
-    (put_fault (stored_files os (tree_of_commit os id)) (commit_map os id))
+    (graft_fault os tree (stored_files os tree) (commit_map os id))
 
 -- 'merge': adds a parent. A commit that is given twice is a parent twice. The first parent counts
 -- for the limit too.

@@ -1,9 +1,8 @@
 //! Changes to the files of an open commit: git-fast-import(1), "filemodify" to "filedeleteall".
 
 ghost use Rattle.std.specs.Prelude.{◌≡◌, ◌≢◌, List, [], None, Some, Ok, Err, OnOk};
-ghost use Rattle.git_model.specs.{GoodRepository.{AreObjects}, Repository.{Object}};
+ghost use Rattle.git_model.specs.Repository.{Object};
 ghost use Rattle.tenant_tables.specs.{Objects.{objects}, IsBackedBy.{IsBackedBy}};
-ghost use Rattle.file_maps.specs.Grafts.{tree_fault};
 ghost use Rattle.open_commits.specs.OpenCommit.{commit_held, shown_in, tree_known, IsCommitHeld};
 ghost use Rattle.open_commits.specs.Changes.{entry_of, modified, file_put, tree_put, deleted};
 ghost use Rattle.open_commits.specs.{Changes.{copied_to, renamed_to, all_deleted}, Calls.{Changes}};
@@ -36,7 +35,7 @@ impl OpenCommit {
     /// The mode says what the dataref must name: for a file a blob, for a gitlink a commit by its
     /// mark or any name, for a directory a tree by its name. `Fault::MarkUnknown` (13) if its mark
     /// is not set, `Fault::ObjectUnknown` (14) if the table has no object of its name,
-    /// `Fault::WrongKind` (15) if the object is of another kind. A mark knows the kind of its
+    /// `Fault::WrongKind` (15) if the object is of another kind, or a tree that has no summary. A mark knows the kind of its
     /// object, which is not looked up. Then `Fault::RootNotDirectory` (20) if anything but a
     /// tree would be at the root, and `Fault::Limit` (25) if a path would have more than 16,383
     /// bytes or 256 components, or the commit more than 1,048,576 files. The commit is unchanged
@@ -55,8 +54,8 @@ impl OpenCommit {
     ) -> Result<(), Fault>
         requires stands { IsBackedBy N.digest_of pool.now table.now.entries }
         requires held { IsCommitHeld (objects pool.now table.now.entries) self.old }
-        ensures changes { let os = objects pool.now table.now.entries in AreObjects N.digest_of os
-            → Changes (modified os marks.now.entries mode object path.now (shown_in os self.old))
+        ensures changes { let os = objects pool.now table.now.entries in
+            Changes (modified os marks.now.entries mode object path.now (shown_in os self.old))
             (shown_in os self.old) (shown_in os self.new) result }
         ensures held { result ≢ Err Fault.Memory
             → IsCommitHeld (objects pool.now table.now.entries) self.new }
@@ -187,9 +186,8 @@ impl OpenCommit {
     ) -> Result<(), Fault>
         requires stands { IsBackedBy N.digest_of pool.now table.now.entries }
         requires held { IsCommitHeld (objects pool.now table.now.entries) self.old }
-        ensures changes { let os = objects pool.now table.now.entries in AreObjects N.digest_of os
-            → tree_fault os tree.now ≡ None
-            → Changes (tree_put os path.now tree.now (shown_in os self.old)) (shown_in os self.old)
+        ensures changes { let os = objects pool.now table.now.entries in
+            Changes (tree_put os path.now tree.now (shown_in os self.old)) (shown_in os self.old)
             (shown_in os self.new) result }
         ensures held { result ≢ Err Fault.Memory
             → IsCommitHeld (objects pool.now table.now.entries) self.new }

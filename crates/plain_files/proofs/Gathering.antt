@@ -18,13 +18,16 @@ use Rattle.tenant_tables.specs.Objects.{objects}
 use Rattle.tenant_tables.specs.IsBackedBy.{IsBackedBy}
 use Rattle.tenant_tables.specs.Trees.{DirectoryStands}
 use Rattle.tenant_tables.proofs.SummaryLemmas.{some_of}
+use Rattle.tenant_tables.proofs.SumsIn.{table-sums}
 use Rattle.file_maps.specs.declared.entry.Entry.{Entry}
 use Rattle.file_maps.specs.FileMap.{Path, Listed}
 use Rattle.file_maps.specs.Edits.{moved}
 use Rattle.file_maps.specs.StoredTree.{HasTree, file_from, Lists, nothing}
 use Rattle.plain_files.specs.Gathers.{has_none, Gathers, GathersEntry}
+use Rattle.file_maps.specs.StoredFiles.{stored_files}
+use Rattle.file_maps.proofs.KnownTrees.{known-files}
 use Rattle.file_maps.proofs.Listing.{lists-append, lists-file, lists-directory}
-use Rattle.file_maps.proofs.Standing.{position_of, stands-before, summary-all, the_summary, tree-placed, tree-lists, tree-summary}
+use Rattle.file_maps.proofs.Standing.{position_of, stands-before, summary-all, the_summary, tree-placed}
 
 -- Files were put after others: those of some direct entries, with a path put before each of theirs.
 pub record GathersSome (os : List Object) (top : Path) (es : List TreeEntry) (old new : Listed) : Type 0 where
@@ -161,11 +164,11 @@ no_file top old (f ∷ fs) h = absurd (omega arith)
 module _ (digest : List ℕ → List ℕ) (pool : Cells) (entries : Entries) (stands : IsBackedBy digest pool entries) where
   -- a directory's tree stands before the tree
   pub inside_before : (id : List ℕ) (xs : List declared.TreeEntry) (i : ℕ) (x : declared.TreeEntry)
-      → HasTree (objects pool entries) id (entries_of xs) → i < length xs → x ≡ get_or xs i x
-      → (entry_of x).mode ≡ mode.Directory
+      → HasTree (objects pool entries) id (entries_of xs) → IsSome (summary_of id entries)
+      → i < length xs → x ≡ get_or xs i x → (entry_of x).mode ≡ mode.Directory
       → (position_of (entry_of x).id entries < position_of id entries) × IsSome (summary_of (entry_of x).id entries)
-  inside_before id xs i x h lt at dir =
-      let p = tree-placed digest pool entries stands id (entries_of xs) h in
+  inside_before id xs i x h plain lt at dir =
+      let p = tree-placed digest pool entries stands id (entries_of xs) h plain in
       let some = some_of (summary_of (entry_of x).id (take (position_of id entries) entries)) (λ s. s.files ≢ 0) (entry_at (DirectoryStands (take (position_of id entries) entries)) xs i x p.1.directories lt at dir) in (
         stands-before (entry_of x).id (position_of id entries) entries some,
         subst (λ (o : Option Summary). IsSome o)
@@ -177,7 +180,8 @@ module _ (digest : List ℕ → List ℕ) (pool : Cells) (entries : Entries) (st
       → has_none (summary_of id entries) ≡ true → Gathers (objects pool entries) top id old old
   gathers_nothing id top old some none =
       let s = the_summary (summary_of id entries) some in
-      let t = tree-lists digest pool entries stands id s.0 s.1 in
-      let sum : s.0.files ≡ length t.0 = ap (λ (x : Summary). x.files) (tree-summary digest pool entries stands id s.0 t.0 s.1 t.1) in
+      let known = known-files (objects pool entries) id s.0 (sym (table-sums digest pool entries stands id) ∙ s.1) in
+      let fs : Listed = stored_files (objects pool entries) id in
+      let sum : s.0.files ≡ length fs = ap (λ (x : Summary). x.files) known.1 in
       let zero_files : s.0.files ≡ 0 = eqb-true s.0.files 0 (ap has_none (sym s.1) ∙ none) in
-      record { files = t.0; listed = t.1; appended = no_file top old t.0 (sym sum ∙ zero_files) }
+      record { files = fs; listed = known.0.listed; appended = no_file top old fs (sym sum ∙ zero_files) }

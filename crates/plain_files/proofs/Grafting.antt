@@ -16,6 +16,7 @@ use Rattle.file_maps.specs.Edits.{moved, with_files, fits, put_tree_at, put_faul
 use Rattle.file_maps.specs.Calls.{Edits}
 use Rattle.file_maps.specs.Kept.{stays, IsBelow}
 use Rattle.file_maps.specs.Storable.{files_summary}
+use Rattle.file_maps.specs.PlainTrees.{HasSummary}
 use Rattle.file_maps.specs.StoredTree.{ListsTree}
 use Rattle.file_maps.specs.Grafts.{tree_fault, or_else, Grafts, is_small}
 use Rattle.plain_files.specs.Gathers.{Gathers}
@@ -69,9 +70,9 @@ gathered-apart os top id items g =
     (apart-moved top g.files (tree-apart os id g.files g.listed))
 
 pub grafts-put : {A : Type 0} (os : List Object) (id : List ℕ) (path : Path) (old new : FileMap) (result : Result A Fault) (items : Listed)
-    → Gathers os path id [] items
+    → Gathers os path id [] items → HasSummary os id
     → Edits result old new (put_fault items (with_files (finmap.retain_keys old (stays None path)) items)) (with_files (finmap.retain_keys old (stays None path)) items)
     → Grafts result os id path old new
-grafts-put os id path old new result items g e =
-    grafts-edits os id path old result new g.files g.listed
+grafts-put os id path old new result items g plain e =
+    grafts-edits os id path old result new g.files (record { tree = g.listed; plain = plain })
     (subst (λ (l : Listed). Edits result old new (put_fault l (with_files (finmap.retain_keys old (is_apart path)) l)) (with_files (finmap.retain_keys old (is_apart path)) l)) g.appended e)

@@ -5,7 +5,7 @@ use Rattle.std.specs.List.{IsDistinct}
 use Rattle.std.specs.Str.{bytes_eq}
 use Rattle.std.proofs.lemmas.List.{map-append, take_all}
 use Rattle.std.proofs.lemmas.Option.{get_or_from_slice_get}
-use Rattle.git_model.specs.Content.{name_by}
+use Rattle.git_model.specs.Content.{Content, name_by}
 use Rattle.git_model.specs.Repository.{Object}
 use Rattle.content_pool.specs.Pool.{Cells, content, IsLive}
 use Rattle.tenant_tables.specs.declared.entry.Entry.{Entry}
@@ -15,7 +15,7 @@ use Rattle.tenant_tables.specs.IsBackedBy.{IsBackedBy, PreservesOthers}
 use Rattle.tenant_tables.proofs.HoldLemmas.{IsNamed, held-nil}
 use Rattle.tenant_tables.proofs.Joined.{take-one}
 use Rattle.pool_file_checks.specs.Own.{own_objects}
-use Rattle.pool_file_checks.specs.Sums.{Sums, TreesFit, sums_with}
+use Rattle.pool_file_checks.specs.Sums.{Fits, Sums, TreesFit, sums_with}
 use Rattle.pool_file.specs.Building.{objects_at, MayLoad}
 use Rattle.pool_file.specs.Tables.{BeginAlike, object_of}
 use Rattle.pool_file.proofs.Alike.{IsLike, like_none, like_on}
@@ -83,7 +83,8 @@ module _ (digest : List ℕ → List ℕ) (p0 p1 : Cells) (slots numbers : List 
       subst (λ (os : List Object). TreesFit b.sums os) left b.fit in
       record {
         sums = more;
-        like = like_on p1 b.sums i es b.like id e distinct at more (λ q. refl);
+        like = like_on p1 b.sums i es b.like id e distinct at
+            (subst (λ (c : Content). Fits c.kind c.bytes b.sums) (sym same) fit.0) more (λ q. refl);
         fit = subst (λ (s : Sums). TreesFit s (drop (i + 1) own)) (sym told) fit.1;
         are =
             ap (λ (os : List Object). os ++ drop (i + 1) own)

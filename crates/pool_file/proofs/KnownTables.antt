@@ -11,7 +11,8 @@ use Rattle.tenant_tables.specs.declared.summary.Summary.{Summary}
 use Rattle.tenant_tables.specs.View.{View, Entries}
 use Rattle.tenant_tables.specs.Adding.{Adds}
 use Rattle.tenant_tables.specs.IsBackedBy.{IsBackedBy, PreservesOthers}
-use Rattle.tenant_tables.specs.Trees.{SummedAfter, no_files}
+use Rattle.tenant_tables.specs.Summed.{SummedAfter}
+use Rattle.tenant_tables.specs.Trees.{no_files}
 use Rattle.pool_file_checks.specs.Own.{own_objects}
 use Rattle.pool_file_checks.specs.Quick.{AreSums}
 use Rattle.pool_file_checks.specs.Sums.{Sums, sum_of_tree}

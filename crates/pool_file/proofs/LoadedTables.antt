@@ -22,7 +22,7 @@ use Rattle.tenant_tables.specs.Objects.{objects}
 use Rattle.tenant_tables.specs.Adding.{Adds}
 use Rattle.tenant_tables.specs.Room.{HasHoldsLeftBeside}
 use Rattle.tenant_tables.specs.IsBackedBy.{IsBackedBy, PreservesOthers}
-use Rattle.tenant_tables.specs.Trees.{SummedAfter}
+use Rattle.tenant_tables.specs.Summed.{SummedAfter}
 use Rattle.tenant_tables.proofs.HoldLemmas.{held-nil, object_named-objects}
 use Rattle.tenant_tables.proofs.RoomLemmas.{has_room, room-after}
 use Rattle.tenant_tables.proofs.TableLemmas.{IsBackedBy-nil, PreservesOthers-refl, PreservesOthers-then, length-objects}

@@ -18,10 +18,12 @@ use Rattle.git_model.specs.Content.{Content, content_from}
 use Rattle.tenant_tables.specs.declared.summary.Summary.{Summary}
 use Rattle.tenant_tables.specs.declared.entry.Entry.{Entry}
 use Rattle.tenant_tables.specs.View.{Entries, entry_named, summary_of}
-use Rattle.tenant_tables.specs.Trees.{SummedAfter, no_files, below, one_file, by_mode, both, tree_summary}
+use Rattle.tenant_tables.specs.Summed.{SummedAfter}
+use Rattle.tenant_tables.specs.Trees.{no_files, below, one_file, by_mode, both, tree_summary}
 use Rattle.pool_file_format.specs.declared.refusal.Refusal.TheVariants as refusal
 use Rattle.pool_file_format.specs.declared.fault.Fault.{Fault}
 use Rattle.pool_file_format.specs.declared.fault.Fault.TheVariants as fault
+use Rattle.tenant_tables.proofs.PlainSums.{other-summed, tree-summed}
 use Rattle.pool_file_checks.specs.Checks.{Checked}
 use Rattle.pool_file_format.specs.Format.{RawObject}
 use Rattle.pool_file_checks.specs.Own.{Rows, content_at, objects_in}
@@ -210,22 +212,23 @@ noted_sum sums entries es noted = ap (λ (named : List ℕ → Option Summary). 
 -- an object that fits is summed after the table
 pub summed_after : (k : Kind) (bytes : List ℕ) (sums : Sums) (entries : Entries) → AreNoted sums entries → Fits k bytes sums
     → SummedAfter entries (content_from k bytes) (own_sum k bytes sums)
-summed_after kind.Tree bytes sums entries noted f = (
-  refl,
-  (
-    tree_read bytes,
-    record {
-      writable = f.0.writable;
-      contents = f.0.contents;
-      directories = subst (λ (named : List ℕ → Option Summary). FilesBy named (tree_read bytes)) (λ i id. noted id i) f.1.directories;
-      sums = noted_sum sums entries (tree_read bytes) noted;
-      within = f.1.within;
-    },
-  ),
-)
-summed_after kind.Blob bytes sums entries noted f = λ e. cc e
-summed_after kind.Commit bytes sums entries noted f = λ e. cc e
-summed_after kind.Tag bytes sums entries noted f = λ e. cc e
+summed_after kind.Tree bytes sums entries noted f =
+    tree-summed entries bytes (sum_of_tree sums (tree_read bytes)) (
+      tree_read bytes,
+      record {
+        writable = f.0.writable;
+        contents = f.0.contents;
+        directories = subst (λ (named : List ℕ → Option Summary). FilesBy named (tree_read bytes)) (λ i id. noted id i) f.1.directories;
+        sums = noted_sum sums entries (tree_read bytes) noted;
+        within = f.1.within;
+      },
+    )
+summed_after kind.Blob bytes sums entries noted f =
+    other-summed entries (content_from kind.Blob bytes) (λ e. cc e)
+summed_after kind.Commit bytes sums entries noted f =
+    other-summed entries (content_from kind.Commit bytes) (λ e. cc e)
+summed_after kind.Tag bytes sums entries noted f =
+    other-summed entries (content_from kind.Tag bytes) (λ e. cc e)
 
 lookup_after : {X : Type 0} (test : List ℕ → Bool) (xs : List (List ℕ × X)) (id : List ℕ) (x : X)
     → lookup test (xs ++ (id, x) ∷ []) ≡ cond (is_some (lookup test xs)) (lookup test xs) (cond (test id) (Some x) None)

@@ -13,7 +13,7 @@ use git_objects::{
     FileMode, Memory, Name, Naming, Sha1Naming, TailNaming, TreeEntry, has_twenty_bytes,
     is_entry_name,
 };
-use held::takes_hello;
+use held::{takes_hello, takes_odd_tree};
 use std::alloc::Global;
 use std::test::Fail;
 use tenant_tables::{Fault, Sight, Summary};
@@ -34,6 +34,9 @@ const AB: &[u8; 40] = b"abababababababababababababababababababb4";
 const FILE_TREE: &[u8; 40] = b"b4d01e9b0c4a9356736dfddf8830ba9a54f5271c";
 
 const DIRECTORY_TREE: &[u8; 40] = b"234ad52a178e424d52fb85e630648fc06505f29a";
+
+// `git hash-object --literally` gave the digits: the tree of one file with the mode `100664`.
+const ODD_TREE: &[u8; 40] = b"dafa8a41b92d8bdc7ec6617cffec852aec2f989d";
 
 // Counted by hand, as below: one file, at `hello`.
 const ONE_FILE: Summary = Summary {
@@ -205,6 +208,12 @@ fn answers_as_the_plain_table_does(rt: HostRuntime) -> Result<(), Fail> {
 #[test]
 fn what_lies_in_the_pool_is_taken_by_its_slot(rt: HostRuntime) -> Result<(), Fail> {
     assert!(rt; takes_hello(rt.alloc(), Sha1Naming, HELLO)?);
+    Ok(())
+}
+
+#[test]
+fn a_tree_that_is_not_plain_is_taken_without_a_summary(rt: HostRuntime) -> Result<(), Fail> {
+    assert!(rt; takes_odd_tree(rt.alloc(), Sha1Naming, ODD_TREE)?);
     Ok(())
 }
 

@@ -21,11 +21,13 @@ use Rattle.file_maps.specs.declared.entry.Entry.{Entry}
 use Rattle.file_maps.specs.declared.fault.Fault.{Fault as FilesFault}
 use Rattle.file_maps.specs.Edits.{copied, files_at, move_fault, moved, put_at, put_fault, put_tree_at, renamed}
 use Rattle.file_maps.specs.FileMap.{AreFiles, FileMap, Path, listed}
+use Rattle.file_maps.specs.Grafts.{graft_fault}
 use Rattle.file_maps.specs.StoredFiles.{commit_map, stored_files, tree_of_commit}
 use Rattle.file_maps.proofs.Maps.{empty-of}
 use Rattle.tenant_tables.proofs.StoredGood.{Grows}
 use Rattle.open_commits.specs.declared.fault.Fault.{Fault as CommitFault}
 use Rattle.git_model.specs.Results.{and_then}
+use Rattle.git_model.proofs.Readables.{objects_are}
 use Rattle.open_commits.specs.Changes.{Left, Marks, all_deleted, blob_of, blob_put, contents_put, copied_to, deleted, entry_of, file_put, link_of, modified, renamed_to, tree_of}
 use Rattle.open_commits.specs.Storing.{stored}
 use Rattle.open_commits.specs.GoodCommits.{AreMarks, GrowGood, IsGoodCommit, IsGoodHeader}
@@ -98,7 +100,7 @@ modified_ref : (os : List Object) (marks : Marks) (file_mode : FileMode) (object
 modified_ref os marks mode.Directory object path commit ref =
     after_any HasRef (tree_of os marks object) _ (λ id. let files = stored_files os id in
     let after = put_tree_at commit.files path files in
-    changed_ref commit after (put_fault (moved path files) after) ref)
+    changed_ref commit after (graft_fault os id (moved path files) after) ref)
 modified_ref os marks mode.Gitlink object path commit ref =
     after_any HasRef (link_of marks object) _
     (λ id. file_put_ref path (entry_of mode.Gitlink id) commit ref)
@@ -151,7 +153,7 @@ started_open : (digest : List ℕ → List ℕ) (os : List Object) → AreObject
 started_open digest os good commit is id k =
     stays_open os (started_from os id commit)
     (changed_ref (record commit { parents = id ∷ [] }) (commit_map os id)
-    (put_fault (stored_files os (tree_of_commit os id)) (commit_map os id)) is.ref)
+    (graft_fault os (tree_of_commit os id) (stored_files os (tree_of_commit os id)) (commit_map os id)) is.ref)
     (started_has digest os good commit is.files id (tree_there digest os good id k))
     (λ next e. start_keeps digest os good commit next is.good is.files id k e)
 
@@ -234,7 +236,7 @@ pub commit_started_open : (digest : List ℕ → List ℕ) (workspace : Workspac
 commit_started_open digest workspace good from commit is =
     then_good (IsCommitOf workspace.objects) (IsOpen workspace.objects)
     (start_in workspace commit.header.ref from) _
-    (start_good digest workspace good commit.header.ref from)
+    (start_good digest workspace (objects_are _ _ good) commit.header.ref from)
     (λ id k. started_open digest workspace.objects good commit is id k)
 
 pub commit_merged_open : (digest : List ℕ → List ℕ) (workspace : Workspace)
@@ -243,7 +245,7 @@ pub commit_merged_open : (digest : List ℕ → List ℕ) (workspace : Workspace
     → IfOk (commit_merged workspace other commit) (IsOpen workspace.objects)
 commit_merged_open digest workspace good other commit is =
     then_good (IsCommitOf workspace.objects) (IsOpen workspace.objects) (commit_in workspace other) _
-    (commit_good digest workspace good other)
+    (commit_good digest workspace (objects_are _ _ good) other)
     (λ id k. stays_open workspace.objects (merged id commit) (merged_ref id commit is.ref)
     (merged_has id commit is.files)
     (λ next e. merge_keeps workspace.objects commit next is.good id k e))

@@ -46,6 +46,7 @@ use Rattle.stream_parts.specs.declared.headers.CommitHeader.{CommitHeader}
 use Rattle.stream_parts.specs.declared.headers.TagHeader.{TagHeader}
 use Rattle.stream_parts.specs.declared.headers.InlineFile.{InlineFile}
 use Rattle.git_model.specs.Results.{and_then}
+use Rattle.git_model.proofs.Readables.{objects_are}
 use Rattle.stream_parts.specs.Faults.{text_first}
 use Rattle.stream_commands.specs.Faults.{changed_or}
 use Rattle.stream_parts.specs.Branches.{Branches, branch_set, has_branch_room, head_in, ref_meant, with_branch, tip_commit, tip_for}
@@ -294,7 +295,7 @@ tip_good digest workspace sound ref from =
     (λ zeros. rw zeros tt)
     (λ other. rw other (
     then_good (IsCommitOf workspace.objects) (IsTip workspace.objects) (start_in workspace ref from) _
-    (start_good digest workspace sound.objects ref from) (λ id stands. stands)))
+    (start_good digest workspace (objects_are _ _ sound.objects) ref from) (λ id stands. stands)))
 
 placed_at : (digest : List ℕ → List ℕ) (workspace : Workspace) → IsSound digest workspace
     → (from : CommitIsh) (command : OpenCommand Opened) → IsSoundCommand workspace.objects command
@@ -315,7 +316,7 @@ alias_keeps : (digest : List ℕ → List ℕ) (workspace : Workspace) → IsSou
     → (mark : ℕ) (commit : CommitIsh) → IfOk (alias_set mark commit workspace) (LeavesSound digest)
 alias_keeps digest workspace sound mark commit =
     then_good (IsCommitOf workspace.objects) (LeavesSound digest) (commit_in workspace commit) _
-    (commit_good digest workspace sound.objects commit) (λ id stands.
+    (commit_good digest workspace (objects_are _ _ sound.objects) commit) (λ id stands.
     then_any (LeavesSound digest) (room_for workspace.stream.marks (Some mark)) _
     (λ _. mark_keeps digest workspace (Some mark) kind.Commit id sound stands))
 

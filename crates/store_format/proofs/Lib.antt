@@ -12,3 +12,6 @@ pub mod Saves
 pub mod Counts
 pub mod Named
 pub mod Covered
+pub mod TargetMaps
+pub mod Tellings
+pub mod AllTold

@@ -1,5 +1,6 @@
 -- Values of the code as values of the definitions.
 use Rattle.std.specs.Prelude.{◌≡◌, ℕ, List, Option, map, option_map, Result, Ok, Err}
+use Rattle.std.specs.Borrow.{Bor}
 use Rattle.pool_file_format.specs.declared.refusal.Refusal.{Refusal}
 use Rattle.pool_file_format.specs.declared.fault.Fault.{Fault}
 use Rattle.pool_file_format.specs.declared.fault.Fault.TheVariants as fault
@@ -91,3 +92,7 @@ numbered_of fs = map (λ f. (f.number, f.bytes.now)) fs
 -- The object of this kind with these contents.
 abbrev pub raw_object_of : ℕ → List ℕ → RawObject
 raw_object_of kind bytes = record { kind = kind; bytes = bytes }
+
+-- Refs whose names are lent, each with the position of its target.
+abbrev pub lent_refs_of : List (Bor (List ℕ) × ℕ) → List (List ℕ × ℕ)
+lent_refs_of refs = map (λ e. (e.0.now, e.1)) refs

@@ -1,6 +1,6 @@
 //! Laws of stores. Each is a function with an empty body, whose clauses speak only of definitions.
 
-ghost use Rattle.std.specs.Prelude.{◌≡◌, ℕ, ◌<◌, ◌^◌, List, ◌++◌, length, Option, Ok};
+ghost use Rattle.std.specs.Prelude.{◌≡◌, ℕ, ◌<◌, ◌^◌, List, [], ◌++◌, length, Option, Ok};
 ghost use Rattle.std.specs.List.{flat_map, AllByRecursion};
 ghost use Rattle.byte_devices.specs.Reading.{AreBytes};
 ghost use Rattle.git_model.specs.{Repository.{Object}, HeldObjects.{IsHeldObject}};
@@ -12,8 +12,9 @@ ghost use Rattle.store_format.specs.State.{State, Listing, FitsState, body_text,
 ghost use Rattle.store_format.specs.Saves.{Appended, listing_after, appended_to, files_after};
 ghost use Rattle.store_format.specs.Saves.{state_after, counted_after, Meets, file_after};
 ghost use Rattle.store_format.specs.Saying.{Files, Counted, Numbered, listed, counted_in, says};
-ghost use Rattle.store_format.specs.Saying.{contents_of, objects_of};
+ghost use Rattle.store_format.specs.Saying.{contents_of, objects_of, Told, all_told};
 ghost use Rattle.store_format.specs.{Sound.{IsSoundState}, Tiling.{AreTiled}};
+ghost use Rattle.store_format.specs.Telling.{tells, told_at};
 ghost use Rattle.store_format.specs.Tiling.{object_bytes, file_bytes};
 ghost use Rattle.store_format.specs.Tails.{HaveGrown, Covers};
 
@@ -107,4 +108,10 @@ pub fn each_byte_is_that_of_one_row()
         (objects : List RawObject) → IsSoundState s → contents_of s.contents bytes ≡ Ok files
         → AreTiled s.contents rows → objects_of files rows ≡ Ok objects
         → flat_map object_bytes objects ≡ flat_map file_bytes files }
+{}
+
+/// If no record is refused, the record of a number tells what the one of this number among all tells.
+pub fn a_record_tells_what_all_tell()
+    ensures { (rs : List TenantRecord) (all : List Told) (number : ℕ) → all_told [] rs ≡ Ok all
+        → tells rs number ≡ told_at all number }
 {}

@@ -3,4 +3,5 @@
 mod checked;
 mod judged;
 mod stored;
+mod telling;
 mod whole;

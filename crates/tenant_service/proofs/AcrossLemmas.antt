@@ -1,35 +1,35 @@
 -- The first objects of a table over one pool, added in turn to a table over another pool.
 use Rattle.std.proofs.Common.{◌≡◌, ◌≢◌, ℕ, zero, suc, ◌+◌, ◌<◌, ◌≤◌, Bool, true, false, cond, List, [], ◌∷◌, ◌++◌, length, take, slice_get, map, All, Option, Some, None, Result, Ok, Err, refl, sym, ap, subst, ◌∙◌, inl, inr, arith, true≢false}
-use Rattle.std.specs.Prelude.{IsSomeAnd, OnOk, fold}
+use Rattle.std.specs.Prelude.{IsSome, OnOk, get_or, is_some}
 use Rattle.std.specs.List.{AllByRecursion, IsDistinct}
 use Rattle.std.specs.Map.{lookup}
-use Rattle.std.specs.Option.{option_and_then, option_map, unwrap_or}
+use Rattle.std.specs.Option.{option_and_then, option_map}
 use Rattle.std.specs.Str.{bytes_eq}
 use Rattle.std.proofs.lemmas.Bool.{cases_eq}
 use Rattle.std.proofs.lemmas.Cmp.{nat_list_eq_equiv}
 use Rattle.std.proofs.lemmas.List.{length-take, map-append}
-use Rattle.std.proofs.lemmas.List.Elements.{All-head, All-tail, All-weaker}
+use Rattle.std.proofs.lemmas.List.Elements.{All-head, All-tail}
 use Rattle.std.proofs.lemmas.Map.Entries.{lookup_from_place}
 use Rattle.std.proofs.lemmas.Slice.Eq.{bytes_eq-Decides}
 use Rattle.git_model.specs.Content.{Content, name_by}
 use Rattle.git_model.specs.GoodRepository.{objects_limit, contents_limit}
 use Rattle.git_model.specs.Repository.{Object, object_named, with_object}
-use Rattle.git_model.specs.Tree.{TreeEntry}
-use Rattle.git_model.specs.declared.file_mode.FileMode.TheVariants as mode
+use Rattle.git_model.specs.TreeReading.{tree_read}
 use Rattle.content_pool.specs.Pool.{Cells, HasHoldsLeft, IsLive, Puts, Releases, content, holds}
 use Rattle.tenant_tables.specs.declared.entry.Entry.{Entry}
 use Rattle.tenant_tables.specs.declared.summary.Summary.{Summary}
 use Rattle.tenant_tables.specs.Adding.{Adds}
 use Rattle.tenant_tables.specs.IsBackedBy.{IsBackedBy, PreservesOthers}
 use Rattle.tenant_tables.specs.Objects.{objects}
-use Rattle.tenant_tables.specs.Trees.{DirectoryStands, FitsTree, IsSummed, SummedAfter, below, both, by_mode, no_files, one_file}
+use Rattle.tenant_tables.specs.Summed.{IsSummed, SummedAfter}
 use Rattle.tenant_tables.specs.View.{Entries, View, entry_named, held, names, summary_of}
 use Rattle.tenant_tables.proofs.AddLemmas.{no_entry}
 use Rattle.tenant_tables.proofs.HoldLemmas.{held-absent, held-at, object_named-objects, objects-kept}
 use Rattle.tenant_tables.proofs.RoomLemmas.{has_room}
 use Rattle.tenant_tables.proofs.TableLemmas.{IsBackedBy-kept, Keeps-put, Keeps-release, length-objects, objects-take}
 use Rattle.tenant_service.specs.Across.{HasFirst, MayAdd}
-use Rattle.tenant_tables.proofs.Copies.{told_of}
+use Rattle.tenant_tables.proofs.Copies.{entry_held, told_of}
+use Rattle.tenant_tables.proofs.PlainSums.{summed-stays}
 
 -- ---- lists of entries
 
@@ -104,33 +104,16 @@ named-push q (x ∷ es) id e none =
             sym ((bytes_eq-Decides q id).0 is) ∙ (bytes_eq-Decides q x.0).0 here in
             absurd (true≢false (sym ((bytes_eq-Decides id x.0).1 there) ∙ other))
 
--- ---- a tree after entries that have the same summaries
+-- ---- a content after entries that have the same names and summaries
 
-module _ (a b : Entries) (agree : (id : List ℕ) → summary_of id a ≡ summary_of id b) where
-  fits-too : (bytes : List ℕ) (s : Summary) → FitsTree a bytes s → FitsTree b bytes s
-  fits-too bytes s f =
-      let es = f.0 in
-      let t = f.1 in (
-        es,
-        record {
-          writable = t.writable;
-          contents = t.contents;
-          directories =
-              All-weaker (DirectoryStands a) (DirectoryStands b)
-              (λ (e : TreeEntry) (h : DirectoryStands a e) (is : e.mode ≡ mode.Directory).
-              subst (λ (o : Option Summary). IsSomeAnd o (λ s. s.files ≢ 0)) (agree e.id) (h is))
-              es t.directories;
-          sums =
-              t.sums
-              ∙ (λ i. fold both no_files (map (λ (e : TreeEntry).
-              by_mode e.mode (below e.name (unwrap_or (agree e.id i) no_files)) (one_file e.name)) es));
-          within = t.within;
-        },
-      )
-
+module _ (a b : Entries) (agree : (id : List ℕ) → summary_of id a ≡ summary_of id b)
+    (there : (id : List ℕ) → IsSome (entry_named id a) → IsSome (entry_named id b)) where
   summed-too : (c : Content) (s : Option Summary) → SummedAfter a c s → SummedAfter b c s
-  summed-too c None h = h
-  summed-too c (Some s) h = (h.0, fits-too c.bytes s h.1)
+  summed-too c s h =
+      summed-stays a b c s
+      (λ tree k d within is.
+      let id = (get_or (tree_read c.bytes) k d).id in
+      record { there = there id (h.directories tree k d within is); same = agree id }) h
 
 -- ---- one object more
 
@@ -204,11 +187,23 @@ module _ (digest : List ℕ → List ℕ) (from : Cells) (entries : Entries) (pl
       ap (option_and_then (λ (e : Entry). e.summary))
       (lookup_from_place nat_list_eq_equiv entries place id entry.0 distinct entry.1)
 
+  still-there : (q : List ℕ) → IsSome (entry_named q (take place entries)) → IsSome (entry_named q made)
+  still-there q some =
+      entry_held p made q
+      (ap is_some
+      (ap (object_named q) (turn.first.objects ∙ sym (objects-take from place entries))
+      ∙ object_named-objects from q (take place entries))
+      ∙ mapped (entry_named q (take place entries)) some)
+    where
+      mapped : (o : Option Entry) → IsSome o → is_some (option_map (λ e. content from e.slot) o) ≡ true
+      mapped None h = cc h
+      mapped (Some e) h = refl
+
   summed-here : SummedAfter made here (summary_of id entries)
   unfolding IsSummed
   summed-here =
       let e = entry in
-      summed-too (take place entries) made (λ q. sym (turn.first.summaries q)) here
+      summed-too (take place entries) made (λ q. sym (turn.first.summaries q)) still-there here
       (summary_of id entries)
       (subst (λ (s : Option Summary). SummedAfter (take place entries) here s) (sym summary-there)
       (subst (λ (s : ℕ). SummedAfter (take place entries) (content from s) e.0.summary) e.2

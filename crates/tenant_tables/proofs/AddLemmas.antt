@@ -26,7 +26,7 @@ use Rattle.tenant_tables.specs.View.{View, Entries, entry_named, slot_of, summar
 use Rattle.git_model.specs.Repository.{Object, object_named}
 use Rattle.tenant_tables.specs.Objects.{objects}
 use Rattle.tenant_tables.specs.IsBackedBy.{IsBackedBy, PreservesOthers}
-use Rattle.tenant_tables.specs.Trees.{SummedAfter, IsSummed}
+use Rattle.tenant_tables.specs.Summed.{SummedAfter, IsSummed}
 use Rattle.tenant_tables.specs.Adding.{store_fault, PushesAt, Adds}
 use Rattle.tenant_tables.proofs.HoldLemmas.{object_named-objects, objects-kept, held-at}
 use Rattle.tenant_tables.proofs.TableLemmas.{IsBackedBy-put, PreservesOthers-put, Keeps-put}

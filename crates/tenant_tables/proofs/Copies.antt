@@ -11,7 +11,6 @@ use Rattle.std.proofs.lemmas.List.Elements.{All-from_recursion, All-head, All-ta
 use Rattle.std.proofs.lemmas.Map.Entries.{lookup_from_place}
 use Rattle.std.proofs.lemmas.Option.{slice_get-get_or}
 use Rattle.std.proofs.lemmas.Slice.Eq.{bytes_eq-Decides}
-use Rattle.git_model.specs.declared.file_mode.FileMode.{FileMode}
 use Rattle.git_model.specs.declared.file_mode.FileMode.TheVariants as mode
 use Rattle.git_model.specs.declared.kind.Kind.{Kind}
 use Rattle.git_model.specs.declared.kind.Kind.TheVariants as kind
@@ -22,7 +21,6 @@ use Rattle.git_model.specs.Repository.{Object, object_named, with_object}
 use Rattle.git_model.specs.Tree.{TreeEntry}
 use Rattle.git_model.specs.TreeReading.{tree_read}
 use Rattle.git_model.proofs.Places.{first_named, first_place, later_named, later_place, nothing_named, of_entries}
-use Rattle.git_model.proofs.TreeReadings.{tree_back}
 use Rattle.content_pool.specs.Pool.{Cells, HasHoldsLeft, IsLive, content, holds}
 use Rattle.tenant_tables.specs.declared.entry.Entry.{Entry}
 use Rattle.tenant_tables.specs.declared.summary.Summary.{Summary}
@@ -31,11 +29,12 @@ use Rattle.tenant_tables.specs.IsBackedBy.{IsBackedBy, PreservesOthers}
 use Rattle.tenant_tables.specs.Objects.{objects}
 use Rattle.tenant_tables.specs.Room.{HasHoldsLeftBeside}
 use Rattle.tenant_tables.specs.Sharing.{Shares}
-use Rattle.tenant_tables.specs.Trees.{DirectoryStands, FitsTree, IsSummed, IsTreeOf, SummedAfter, both, by_mode, below, entry_summary, no_files, one_file}
+use Rattle.tenant_tables.specs.Summed.{IsDirectoryThere, IsSummed, SummedAfter}
 use Rattle.tenant_tables.specs.View.{Entries, View, entry_named, names, summary_of}
 use Rattle.tenant_tables.proofs.AddLemmas.{no_entry}
-use Rattle.tenant_tables.proofs.HoldLemmas.{held-at, held-nil}
-use Rattle.tenant_tables.proofs.SummaryLemmas.{some_of, summary_of-take}
+use Rattle.tenant_tables.proofs.HoldLemmas.{held-at, held-nil, object_named-objects}
+use Rattle.tenant_tables.proofs.PlainSums.{Stays, summed-stays}
+use Rattle.tenant_tables.proofs.SummaryLemmas.{entry_named-take}
 use Rattle.tenant_tables.proofs.TableLemmas.{IsBackedBy-nil, PreservesOthers-refl, PreservesOthers-then, length-objects}
 use Rattle.tenant_tables.specs.Copied.{IsCopied, objects_at}
 
@@ -83,6 +82,15 @@ named-front q o [] nay = rw nay refl
 named-front q o (x ∷ os) nay =
     ap (λ (rest : Option Content). cond (bytes_eq q x.id) (Some x.content) rest)
     (named-front q o os nay)
+
+-- an object of a table has an entry
+pub entry_held : (p : Cells) (es : Entries) (id : List ℕ)
+    → is_some (object_named id (objects p es)) ≡ true → IsSome (entry_named id es)
+entry_held p es id h = by (entry_named id es) (ap is_some (sym (object_named-objects p id es)) ∙ h)
+  where
+    by : (o : Option Entry) → is_some (option_map (λ e. content p e.slot) o) ≡ true → IsSome o
+    by None h = cc h
+    by (Some e) h = refl
 
 -- ---- a list of good objects, up to a place
 
@@ -139,53 +147,6 @@ module _ (digest : List ℕ → List ℕ) (os : List Object) (good : AreObjects 
       there-each (tree_read c.bytes)
       (of_entries (StandsBefore os i) (tree_read c.bytes)
       (subst (λ (k : Kind). All (StandsBefore os i) (references_of k c.bytes)) tree all))
-
--- ---- the summary of a tree, by what two tables have of its directories
-
-module _ (a b : Entries) where
-  abbrev Agree : TreeEntry → Type 0
-  Agree e = e.mode ≡ mode.Directory → summary_of e.id b ≡ summary_of e.id a
-
-  by-mode : (m : FileMode) (s t f : Summary) → (m ≡ mode.Directory → s ≡ t)
-      → by_mode m s f ≡ by_mode m t f
-  by-mode mode.Directory s t f h = h refl
-  by-mode mode.Regular s t f h = refl
-  by-mode mode.Executable s t f h = refl
-  by-mode mode.Symlink s t f h = refl
-  by-mode mode.Gitlink s t f h = refl
-
-  same-sums : (es : List TreeEntry) → AllByRecursion Agree es
-      → map (entry_summary a) es ≡ map (entry_summary b) es
-  same-sums [] all = refl
-  same-sums (e ∷ es) all =
-      let here = by-mode e.mode (below e.name (unwrap_or (summary_of e.id a) no_files))
-      (below e.name (unwrap_or (summary_of e.id b) no_files)) (one_file e.name)
-      (λ is. ap (λ (o : Option Summary). below e.name (unwrap_or o no_files)) (sym (all.0 is))) in
-      let rest = same-sums es all.1 in
-      λ i. here i ∷ rest i
-
-  same-directories : (es : List TreeEntry) → AllByRecursion Agree es
-      → AllByRecursion (DirectoryStands a) es → AllByRecursion (DirectoryStands b) es
-  same-directories [] all stand = tt
-  same-directories (e ∷ es) all stand = (
-    λ is. subst (λ (o : Option Summary). IsSomeAnd o (λ s. s.files ≢ 0)) (sym (all.0 is)) (stand.0 is),
-    same-directories es all.1 stand.1,
-  )
-
-  -- a tree that fits after one fits after the other
-  fits-again : (bytes : List ℕ) (s : Summary) (es : List TreeEntry) → IsTreeOf a bytes s es
-      → AllByRecursion Agree es → FitsTree b bytes s
-  fits-again bytes s es t all = (
-    es,
-    record {
-      writable = t.writable;
-      contents = t.contents;
-      directories = All-from_recursion (DirectoryStands b) es
-          (same-directories es all (recursion_from_All (DirectoryStands a) es t.directories));
-      sums = t.sums ∙ ap (fold both no_files) (same-sums es all);
-      within = t.within;
-    },
-  )
 
 -- ---- one object more
 
@@ -312,32 +273,32 @@ module _ (digest : List ℕ → List ℕ) (before pool : Cells) (from : Entries)
       ap (option_and_then (λ (e : Entry). e.summary))
       (lookup_from_place nat_list_eq_equiv from place id entry.0 distinct entry.1)
 
-  agree-each : (es : List TreeEntry) → AllByRecursion (DirectoryStands (take place from)) es
-      → AllByRecursion (IsThere (take i os)) es
-      → AllByRecursion (Agree (take place from) old.entries) es
-  agree-each [] stand there = tt
-  agree-each (e ∷ es) stand there = (
+  stays-each : (es : List TreeEntry)
+      → AllByRecursion (IsDirectoryThere (take place from)) es → AllByRecursion (IsThere (take i os)) es
+      → AllByRecursion (λ e. e.mode ≡ mode.Directory → Stays (take place from) old.entries e.id) es
+  stays-each [] all there = tt
+  stays-each (e ∷ es) all there = (
     λ is.
-        first.summaries e.id
-        (ap (λ (xs : List Object). is_some (object_named e.id xs)) front ∙ there.0 is)
-        ∙ sym (summary_of-take place from e.id (some_of (summary_of e.id (take place from)) (λ s. s.files ≢ 0) (stand.0 is))),
-    agree-each es stand.1 there.1,
+        let copied = ap (λ (xs : List Object). is_some (object_named e.id xs)) front ∙ there.0 is in record {
+          there = entry_held pool old.entries e.id
+              (ap (λ (xs : List Object). is_some (object_named e.id xs)) first.are ∙ copied);
+          same =
+              ap (option_and_then (λ (x : Entry). x.summary)) (entry_named-take place from e.id (all.0 is))
+              ∙ sym (first.summaries e.id copied);
+        },
+    stays-each es all.1 there.1,
   )
 
   summed-after : (c : Content) → content before slot ≡ c → (s : Option Summary)
       → SummedAfter (take place from) c s → SummedAfter old.entries c s
-  summed-after c has None h = h
-  summed-after c has (Some s) h =
-      let t = h.1.1 in
-      let read : tree_read c.bytes ≡ h.1.0 =
-      ap tree_read t.contents ∙ tree_back h.1.0 t.writable in (
-        h.0,
-        fits-again (take place from) old.entries c.bytes s h.1.0 t
-            (agree-each h.1.0 (recursion_from_All (DirectoryStands (take place from)) h.1.0 t.directories)
-            (subst (AllByRecursion (IsThere (take i os))) read
-            (directories-there digest os good i (omega (arith, size, lt)) c
-            (ap (λ (o : Object). o.content) here ∙ has) h.0))),
-      )
+  summed-after c has s h =
+      let P = λ (e : TreeEntry). e.mode ≡ mode.Directory → Stays (take place from) old.entries e.id in
+      summed-stays (take place from) old.entries c s
+      (λ tree. All-from_recursion P (tree_read c.bytes)
+      (stays-each (tree_read c.bytes)
+      (recursion_from_All (IsDirectoryThere (take place from)) (tree_read c.bytes) (h.directories tree))
+      (directories-there digest os good i (omega (arith, size, lt)) c
+      (ap (λ (o : Object). o.content) here ∙ has) tree))) h
 
   pub is-summed : SummedAfter old.entries (content pool slot) (summary_of id from)
   unfolding IsSummed

@@ -1,24 +1,26 @@
 -- The summary of a plain tree: what it says, and what it hangs on.
 use Rattle.std.proofs.Common.{◌≡◌, ◌≢◌, ℕ, Bool, true, false, ◌&&◌, cond, List, [], ◌∷◌, map, Option, None, Some, refl, sym, ap, subst, ◌∙◌, All}
-use Rattle.std.specs.Prelude.{◌↔◌, fold}
+use Rattle.std.specs.Prelude.{◌↔◌, IsSome, IsSomeAnd, fold, get_or}
 use Rattle.std.specs.Bool.{Decides}
 use Rattle.std.specs.List.{list_all}
-use Rattle.std.specs.Option.{unwrap_or}
+use Rattle.std.specs.Option.{option_and_then, unwrap_or}
 use Rattle.std.proofs.lemmas.Bool.Decides.{Decides-and}
 use Rattle.std.proofs.lemmas.List.Elements.{All-head, All-tail}
 use Rattle.git_model.specs.declared.file_mode.FileMode.{FileMode}
 use Rattle.git_model.specs.declared.file_mode.FileMode.TheVariants as mode
 use Rattle.git_model.specs.declared.kind.Kind.{Kind}
 use Rattle.git_model.specs.declared.kind.Kind.TheVariants as kind
-use Rattle.git_model.specs.Content.{Content}
+use Rattle.git_model.specs.Content.{Content, content_from}
 use Rattle.git_model.specs.Tree.{TreeEntry}
 use Rattle.git_model.specs.TreeReading.{tree_read}
 use Rattle.git_model.proofs.TreeReadings.{tree_back}
+use Rattle.tenant_tables.specs.declared.entry.Entry.{Entry}
 use Rattle.tenant_tables.specs.declared.summary.Summary.{Summary}
 use Rattle.tenant_tables.specs.SumIn.{IsPlain, content_sum, is_known, is_known_by, is_plain, is_tree_text, is_within, plain_sum, sum_by_kind}
 use Rattle.tenant_tables.specs.Sums.{IsTreeText}
-use Rattle.tenant_tables.specs.Trees.{HasFilesBy, IsTreeOf, IsWithin, SummedAfter, below, both, by_mode, no_files, one_file, summary_by, tree_summary_by}
-use Rattle.tenant_tables.specs.View.{Entries, summary_of}
+use Rattle.tenant_tables.specs.Summed.{SummedAfter}
+use Rattle.tenant_tables.specs.Trees.{FitsTree, HasFilesBy, IsTreeOf, IsWithin, below, both, by_mode, no_files, one_file, summary_by, tree_summary_by}
+use Rattle.tenant_tables.specs.View.{Entries, entry_named, summary_of}
 use Rattle.tenant_tables.proofs.TreeTests.{text_test, directories_test, within_test}
 
 -- ---- plain trees have their summary
@@ -109,13 +111,40 @@ module _ (known other : List ℕ → Option Summary) where
       ap (fold both no_files) (sums-agree (tree_read bytes) h) in
       λ i. cond (is_tree_text bytes && tests i && is_within (sums i)) (Some (sums i)) None
 
--- ---- what a table has is a plain tree's
+  -- so the summary of a content does
+  pub content_sum-agrees : (c : Content)
+      → (c.kind ≡ kind.Tree → All Agrees (tree_read c.bytes))
+      → content_sum known c ≡ content_sum other c
+  content_sum-agrees c h = by c.kind refl
+    where
+      by : (k : Kind) → c.kind ≡ k
+          → sum_by_kind k (plain_sum known c.bytes) ≡ sum_by_kind k (plain_sum other c.bytes)
+      by kind.Tree is = plain_sum-agrees c.bytes (h is)
+      by kind.Blob is = refl
+      by kind.Commit is = refl
+      by kind.Tag is = refl
+
+-- ---- what a table keeps of a content
 
 other_kind : (k : Kind) (o : Option Summary) → k ≢ kind.Tree → sum_by_kind k o ≡ None
 other_kind kind.Tree o ne = absurd (ne refl)
 other_kind kind.Blob o ne = refl
 other_kind kind.Commit o ne = refl
 other_kind kind.Tag o ne = refl
+
+-- only a tree has a summary
+pub summed-kind : (k : Kind) (o : Option Summary) (s : Summary) → sum_by_kind k o ≡ Some s
+    → (k ≡ kind.Tree) × (o ≡ Some s)
+summed-kind kind.Tree o s h = (refl, h)
+summed-kind kind.Blob o s h = cc h
+summed-kind kind.Commit o s h = cc h
+summed-kind kind.Tag o s h = cc h
+
+pub other-summed : (table : Entries) (c : Content) → c.kind ≢ kind.Tree → SummedAfter table c None
+other-summed table c ne = record {
+  directories = λ is. absurd (ne is);
+  sum = sym (other_kind c.kind (plain_sum (λ id. summary_of id table) c.bytes) ne);
+}
 
 -- a tree that fits after entries is plain by their summaries
 pub tree-plain : (front : Entries) (bytes : List ℕ) (s : Summary) (es : List TreeEntry)
@@ -130,10 +159,48 @@ tree-plain front bytes s es t =
       within = t.within;
     }
 
--- so each entry has the summary of its content by those before it
-pub summed-sum : (front : Entries) (c : Content) (o : Option Summary) → SummedAfter front c o
-    → content_sum (λ id. summary_of id front) c ≡ o
-summed-sum front c None h = other_kind c.kind _ h
-summed-sum front c (Some s) h =
-    ap (λ (k : Kind). sum_by_kind k (plain_sum (λ id. summary_of id front) c.bytes)) h.0
-    ∙ has-plain (λ id. summary_of id front) c.bytes s (tree-plain front c.bytes s h.1.0 h.1.1)
+entry_there : (o : Option Entry) (P : Summary → Type 0)
+    → IsSomeAnd (option_and_then (λ (e : Entry). e.summary) o) P → IsSome o
+entry_there None P h = absurd h
+entry_there (Some e) P h = refl
+
+pub plain-summed : (table : Entries) (bytes : List ℕ) (s : Summary)
+    → IsPlain (λ id. summary_of id table) bytes s
+    → SummedAfter table (content_from kind.Tree bytes) (Some s)
+plain-summed table bytes s p = record {
+  directories = λ tree k d within is.
+      let e = get_or (tree_read bytes) k d in
+      entry_there (entry_named e.id table) (λ x. x.files ≢ 0) (p.directories k d within is);
+  sum = sym (has-plain (λ id. summary_of id table) bytes s p);
+}
+
+pub tree-summed : (table : Entries) (bytes : List ℕ) (s : Summary) → FitsTree table bytes s
+    → SummedAfter table (content_from kind.Tree bytes) (Some s)
+tree-summed table bytes s fits =
+    plain-summed table bytes s (tree-plain table bytes s fits.0 fits.1)
+
+-- a tree that is kept with a summary is plain by those before it
+pub summed-tree : (table : Entries) (c : Content) (s : Summary) → SummedAfter table c (Some s)
+    → (c.kind ≡ kind.Tree) × IsPlain (λ id. summary_of id table) c.bytes s
+summed-tree table c s h =
+    let known = λ (id : List ℕ). summary_of id table in
+    let t = summed-kind c.kind (plain_sum known c.bytes) s (sym h.sum) in
+    (t.0, plain-has known c.bytes s t.1)
+
+-- ---- the same after other entries
+
+-- After other entries the tree of a directory is there, and has the summary that it had.
+pub record Stays (table other : Entries) (id : List ℕ) : Type 0 where
+  pub there : IsSome (entry_named id other)
+  pub same : summary_of id table ≡ summary_of id other
+
+pub summed-stays : (table other : Entries) (c : Content) (o : Option Summary)
+    → (c.kind ≡ kind.Tree → All (λ e. e.mode ≡ mode.Directory → Stays table other e.id) (tree_read c.bytes))
+    → SummedAfter table c o → SummedAfter other c o
+summed-stays table other c o stays h = record {
+  directories = λ tree k d within is. (stays tree k d within is).there;
+  sum =
+      h.sum
+      ∙ content_sum-agrees (λ id. summary_of id table) (λ id. summary_of id other) c
+      (λ tree k d within is. (stays tree k d within is).same);
+}

@@ -16,7 +16,7 @@ use Rattle.tenant_tables.specs.Index.{IsTable}
 use Rattle.tenant_tables.specs.IsBackedBy.{IsBackedBy}
 use Rattle.tenant_tables.specs.Room.{HasHoldsLeftBeside}
 use Rattle.tenant_tables.specs.Sharing.{HoldsMore, Shares}
-use Rattle.tenant_tables.specs.Trees.{IsSummed}
+use Rattle.tenant_tables.specs.Summed.{IsSummed}
 use Rattle.tenant_tables.specs.View.{View, Entries, names, held, in_sight}
 use Rattle.tenant_tables.proofs.FoundLemmas.{distinct-take}
 use Rattle.tenant_tables.proofs.HoldLemmas.{Keeps, IsNamed, IsShort, held-at, held-cons, held-nil, held-push, objects-kept}

@@ -1,27 +1,24 @@
 -- Summaries of trees, kept through each change.
 use Rattle.std.proofs.Common.{◌≡◌, ◌≢◌, ℕ, zero, suc, ◌<◌, inl, inr, Bool, true, false, cond, nat_lt, List, [], ◌∷◌, ◌++◌, length, take, map, Option, None, Some, slice_get, refl, sym, ap, subst, ◌∙◌, arith}
-use Rattle.std.specs.Prelude.{All, IsSome, IsSomeAnd, fold}
+use Rattle.std.specs.Prelude.{IsSome, IsSomeAnd, get_or}
 use Rattle.std.specs.List.{position_or_len}
 use Rattle.std.specs.Map.{keys_of, lookup}
-use Rattle.std.specs.Option.{option_and_then, unwrap_or}
+use Rattle.std.specs.Option.{option_and_then}
 use Rattle.std.specs.Str.{bytes_eq}
-use Rattle.std.proofs.lemmas.List.Elements.{All-head, All-tail}
-use Rattle.git_model.specs.declared.file_mode.FileMode.{FileMode}
-use Rattle.git_model.specs.declared.file_mode.FileMode.TheVariants.{Regular, Executable, Symlink, Gitlink, Directory}
-use Rattle.git_model.specs.Tree.{TreeEntry}
 use Rattle.tenant_tables.proofs.EntryLemmas.{lookup-take}
-use Rattle.tenant_tables.proofs.TreeTexts.{tree_contents-injective}
 use Rattle.std.proofs.lemmas.Bool.{cases_eq, cases_lt}
 use Rattle.std.proofs.lemmas.List.{take-append-le, length-append}
 use Rattle.std.proofs.lemmas.Option.{slice_get_within, slice_get_past}
 use Rattle.std.proofs.Math.Seq.{take-append_seam}
 use Rattle.git_model.specs.Content.{Content}
+use Rattle.git_model.specs.TreeReading.{tree_read}
 use Rattle.content_pool.specs.Pool.{Cells, content}
 use Rattle.tenant_tables.specs.declared.entry.Entry.{Entry}
 use Rattle.tenant_tables.specs.declared.summary.Summary.{Summary}
 use Rattle.tenant_tables.specs.View.{Entries, entry_named, summary_of}
-use Rattle.tenant_tables.specs.Trees.{IsSummed, SummedAfter, FitsTree, DirectoryStands, by_mode, below, both, entry_summary, no_files, one_file, tree_summary}
+use Rattle.tenant_tables.specs.Summed.{IsSummed, SummedAfter}
 use Rattle.tenant_tables.proofs.HoldLemmas.{Keeps, held-at}
+use Rattle.tenant_tables.proofs.PlainSums.{content_sum-agrees}
 
 -- what stands among the first stands there whatever comes after
 pub slice_get-append : {X : Type 0} (xs ys : List X) (i : ℕ) → i < length xs
@@ -87,14 +84,17 @@ IsSummed-push p es id e h new i jd f at =
 
 -- ---- one tree, one summary
 
--- what an entry adds stays, while a directory's summary does
-entry_summary-same : (m : FileMode) (a b f : Summary) → (m ≡ Directory → a ≡ b)
-    → by_mode m a f ≡ by_mode m b f
-entry_summary-same Directory a b f h = h refl
-entry_summary-same Regular a b f h = refl
-entry_summary-same Executable a b f h = refl
-entry_summary-same Symlink a b f h = refl
-entry_summary-same Gitlink a b f h = refl
+-- an entry of a prefix is that of the whole
+pub entry_named-take : (n : ℕ) (es : Entries) (id : List ℕ) → IsSome (entry_named id (take n es))
+    → entry_named id (take n es) ≡ entry_named id es
+unfolding entry_named
+entry_named-take n es id some =
+    by (nat_lt (position_or_len (bytes_eq id) (keys_of es)) n) (lookup-take (bytes_eq id) n es)
+  where
+    by : (b : Bool) → lookup (bytes_eq id) (take n es) ≡ cond b (lookup (bytes_eq id) es) None
+        → lookup (bytes_eq id) (take n es) ≡ lookup (bytes_eq id) es
+    by true e = e
+    by false e = let none : false ≡ true = rw e at some in cc none
 
 -- the summaries that a prefix has are those of the whole
 pub summary_of-take : (n : ℕ) (es : Entries) (id : List ℕ) → IsSome (summary_of id (take n es))
@@ -113,33 +113,13 @@ pub some_of : {A : Type 0} (o : Option A) (P : A → Type 0) → IsSomeAnd o P �
 some_of None P h = absurd h
 some_of (Some x) P h = refl
 
-summaries-take : (n : ℕ) (es : Entries) (rows : List TreeEntry)
-    → All (DirectoryStands (take n es)) rows
-    → map (entry_summary (take n es)) rows ≡ map (entry_summary es) rows
-summaries-take n es [] h = refl
-summaries-take n es (r ∷ rows) h =
-    let stands = All-head (DirectoryStands (take n es)) r rows h in
-    let here =
-    entry_summary-same r.mode (below r.name (unwrap_or (summary_of r.id (take n es)) no_files))
-    (below r.name (unwrap_or (summary_of r.id es) no_files))
-    (one_file r.name)
-    (λ is. ap (λ (o : Option Summary). below r.name (unwrap_or o no_files)) (summary_of-take n es r.id (some_of (summary_of r.id (take n es)) (λ s. s.files ≢ 0) (stands is)))) in
-    let rest = summaries-take n es rows (All-tail (DirectoryStands (take n es)) r rows h) in
-    λ i. here i ∷ rest i
-
-FitsTree-same : (n : ℕ) (es : Entries) (bytes : List ℕ) (s t : Summary)
-    → FitsTree (take n es) bytes s → FitsTree es bytes t → s ≡ t
-FitsTree-same n es bytes s t f g =
-    let rows : f.0 ≡ g.0 =
-    tree_contents-injective f.0 g.0 f.1.writable g.1.writable
-    (sym f.1.contents ∙ g.1.contents) in
-    f.1.sums ∙ ap (fold both no_files) (summaries-take n es f.0 f.1.directories)
-    ∙ ap (tree_summary es) rows ∙ sym g.1.sums
-
--- an object that is added again has the summary that it had
+-- a content that is added again has the summary that it had
 pub SummedAfter-same : (n : ℕ) (es : Entries) (c : Content) (s t : Option Summary)
     → SummedAfter (take n es) c s → SummedAfter es c t → s ≡ t
-SummedAfter-same n es c None None f g = refl
-SummedAfter-same n es c None (Some t) f g = absurd (f g.0)
-SummedAfter-same n es c (Some s) None f g = absurd (g f.0)
-SummedAfter-same n es c (Some s) (Some t) f g = ap Some (FitsTree-same n es c.bytes s t f.1 g.1)
+SummedAfter-same n es c s t f g =
+    f.sum
+    ∙ content_sum-agrees (λ id. summary_of id (take n es)) (λ id. summary_of id es) c
+    (λ tree k d within is.
+    ap (option_and_then (λ (x : Entry). x.summary))
+    (entry_named-take n es (get_or (tree_read c.bytes) k d).id (f.directories tree k d within is)))
+    ∙ sym g.sum

@@ -21,9 +21,9 @@ use Rattle.tenant_tables.specs.IsBackedBy.{IsBackedBy}
 use Rattle.tenant_tables.specs.Objects.{objects}
 use Rattle.tenant_tables.specs.SumIn.{NamedSums, content_sum, known_in, plain_sum, sum_by_kind, sum_in, sums_of, with_sum}
 use Rattle.tenant_tables.specs.Sums.{Fits, Sums, TreesFit, sum_of_tree, sums_with}
-use Rattle.tenant_tables.specs.Trees.{IsSummed, SummedAfter}
+use Rattle.tenant_tables.specs.Summed.{IsSummed, SummedAfter}
 use Rattle.tenant_tables.specs.View.{Entries, entry_named, summary_of}
-use Rattle.tenant_tables.proofs.PlainSums.{has-plain, summed-sum}
+use Rattle.tenant_tables.proofs.PlainSums.{has-plain}
 
 -- ---- the summaries that a table has
 
@@ -70,7 +70,7 @@ table-fold pool front (e ∷ rest) h =
     λ i id. known-table front id i in
     let sum : content_sum (known_in (table_sums front)) c ≡ e.1.summary =
     ap (λ (known : List ℕ → Option Summary). content_sum known c) same
-    ∙ summed-sum front c e.1.summary (summed-between pool front e rest h) in
+    ∙ sym (summed-between pool front e rest h).sum in
     let pushed : table_sums front ++ (e.0, content_sum (known_in (table_sums front)) c) ∷ []
     ≡ table_sums (front ++ e ∷ []) =
     ap (λ (s : Option Summary). table_sums front ++ (e.0, s) ∷ []) sum

@@ -14,7 +14,7 @@ use Rattle.tenant_tables.specs.declared.table.TheConstants.{CONTENTS_LIMIT}
 use Rattle.tenant_tables.specs.View.{Entries, entry_named, held}
 use Rattle.tenant_tables.specs.Objects.{objects}
 use Rattle.tenant_tables.specs.IsBackedBy.{IsBackedBy, PreservesOthers, AreCounted}
-use Rattle.tenant_tables.specs.Trees.{SummedAfter}
+use Rattle.tenant_tables.specs.Summed.{SummedAfter}
 use Rattle.tenant_tables.proofs.HoldLemmas.{Keeps, IsNamed, IsShort, short-kept, held-push, held-nil, held-absent, objects-kept, named-kept}
 use Rattle.tenant_tables.proofs.SummaryLemmas.{IsSummed-nil, IsSummed-kept, IsSummed-prefix, IsSummed-push}
 

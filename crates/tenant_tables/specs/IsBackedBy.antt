@@ -6,7 +6,7 @@ use Rattle.git_model.specs.Repository.{Object}
 use Rattle.content_pool.specs.Pool.{Cells, holds, content}
 use Rattle.tenant_tables.specs.View.{Entries, held}
 use Rattle.tenant_tables.specs.Objects.{objects}
-use Rattle.tenant_tables.specs.Trees.{IsSummed}
+use Rattle.tenant_tables.specs.Summed.{IsSummed}
 
 -- A pool backs the entries of a table: each entry has the object name of the content in its slot,
 -- no content is longer than a table takes, no slot has two entries, the pool counts a hold for each

@@ -10,6 +10,7 @@ pub mod Adding
 pub mod Trees
 pub mod Sums
 pub mod SumIn
+pub mod Summed
 pub mod Abbreviation
 pub mod Index
 pub mod Copied

@@ -1,14 +1,10 @@
 -- What a table knows of a tree without reading it: the size of its file map.
-use Rattle.std.specs.Prelude.{◌≡◌, ◌≢◌, ℕ, ◌+◌, ◌==◌, ◌≤◌, List, All, Option, None, Some, IsSomeAnd, length, map, max, fold, take, slice_get, if◌then◌else◌}
+use Rattle.std.specs.Prelude.{◌≡◌, ◌≢◌, ℕ, ◌+◌, ◌==◌, ◌≤◌, List, All, Option, IsSomeAnd, length, map, max, fold, if◌then◌else◌}
 use Rattle.std.specs.Option.{unwrap_or}
 use Rattle.git_model.specs.declared.file_mode.FileMode.{FileMode}
 use Rattle.git_model.specs.declared.file_mode.FileMode.TheVariants as mode
-use Rattle.git_model.specs.declared.kind.Kind.TheVariants as kind
 use Rattle.git_model.specs.Limits.{files_limit, path_bytes_limit, path_components_limit}
 use Rattle.git_model.specs.Tree.{TreeEntry, CanWriteTree, tree_contents}
-use Rattle.git_model.specs.Content.{Content}
-use Rattle.content_pool.specs.Pool.{Cells, content}
-use Rattle.tenant_tables.specs.declared.entry.Entry.{Entry}
 use Rattle.tenant_tables.specs.declared.summary.Summary.{Summary}
 use Rattle.tenant_tables.specs.View.{Entries, summary_of}
 
@@ -83,14 +79,3 @@ pub record IsTreeOf (table : Entries) (bytes : List ℕ) (summary : Summary)
 -- The same, of some entries.
 abbrev pub FitsTree : Entries → List ℕ → Summary → Type 0
 FitsTree table bytes summary = (es : List TreeEntry) × IsTreeOf table bytes summary es
-
--- The summary in a new entry, after those of the table: a tree has its summary, and every other
--- object has none.
-abbrev pub SummedAfter : Entries → Content → Option Summary → Type 0
-SummedAfter table c None = c.kind ≢ kind.Tree
-SummedAfter table c (Some s) = (c.kind ≡ kind.Tree) × FitsTree table c.bytes s
-
--- Each entry has the right summary, given the entries before it.
-unfoldable pub IsSummed : Cells → Entries → Type 0
-IsSummed pool entries = (i : ℕ) (id : List ℕ) (e : Entry) → slice_get entries i ≡ Some (id, e)
-    → SummedAfter (take i entries) (content pool e.slot) e.summary

@@ -11,7 +11,7 @@ ghost use Rattle.content_pool.specs.Pool.{HasHoldsLeft, IsLive, content};
 ghost use Rattle.tenant_tables.specs.View.{names, entry_named, slot_of, summary_of, in_sight};
 ghost use Rattle.tenant_tables.specs.{Objects.{objects}, IsBackedBy.{IsBackedBy, PreservesOthers}};
 ghost use Rattle.tenant_tables.specs.Adding.{Answers, store_fault, Adds, Pushes, PushesAt};
-ghost use Rattle.tenant_tables.specs.{Trees.{FitsTree, SummedAfter}, Abbreviation.{found_among}};
+ghost use Rattle.tenant_tables.specs.{Trees.{FitsTree}, Summed.{SummedAfter}, Abbreviation.{found_among}};
 ghost use Rattle.name_index.specs.Index.{most_shared};
 
 use crate::entry::Entry;
@@ -390,7 +390,8 @@ impl Table {
     /// table does not have. The slot is held once more; nothing is copied and nothing is hashed.
     ///
     /// The caller makes sure of what `add` and `add_tree` check: the name is that of the content,
-    /// the limits hold, and a tree has its summary. `Memory` (90) if there is no room for one more
+    /// the limits hold, and the summary is that of the content. A tree that is not plain has none,
+    /// and the trees of its directories are in the table. `Memory` (90) if there is no room for one more
     /// object; table and pool are then unchanged.
     pub fn add_held<N: Naming>(
         &mut self,

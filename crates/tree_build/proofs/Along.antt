@@ -7,7 +7,7 @@ use Rattle.git_paths.proofs.Cases.{by_cases}
 use Rattle.file_maps.specs.FileMap.{Path, Listed}
 use Rattle.file_maps.specs.Edits.{moved}
 use Rattle.file_maps.specs.StoredFiles.{stored_files}
-use Rattle.file_maps.specs.StoredTree.{ListsTree}
+use Rattle.file_maps.specs.PlainTrees.{ListsPlain}
 use Rattle.tree_build.specs.Shape.{What, file, unopened, opened, Shape, none, row, Held, Directory, Known, what_files, shape_files, held_files}
 use Rattle.tree_build.specs.Branch.{IsWhat, IsShape, IsHeld, closed_by, closed_along, closed_from}
 use Rattle.tree_build.specs.Editing.{child, changed}
@@ -118,11 +118,11 @@ opens_here os h sound rest ended = record {
 
 -- a stored tree that was opened, and then along a path
 pub opens_unopened : (os : List Object) (rest : Path) (id : List ℕ) (first last : Directory) → IsOpening os id first
-    → OpensAlong os rest first last → ListsTree os id (stored_files os id)
+    → OpensAlong os rest first last → ListsPlain os id (stored_files os id)
     → OpensHeld os rest (record { what = unopened id; inside = none }) (record { what = opened last.tree; inside = last.entries })
 opens_unopened os rest id first last o a lists =
     let files = a.files ∙ o.files in
-    let known : IsWhat os (opened (Some id)) (shape_files (stored_files os) last.entries) = subst (ListsTree os id) (sym files) lists in
+    let known : IsWhat os (opened (Some id)) (shape_files (stored_files os) last.entries) = subst (ListsPlain os id) (sym files) lists in
     record {
       sound = (subst (λ (t : Option (List ℕ)). IsWhat os (opened t) (shape_files (stored_files os) last.entries)) (sym (a.tree ∙ o.tree)) known, a.sound);
       order = refl;

@@ -3,7 +3,7 @@
 use Rattle.std.proofs.Common.{◌≡◌, ℕ, ◌≤◌, List, [], ◌∷◌, map, Option, Some, None, refl, sym, ap, ◌∙◌, subst, arith}
 use Rattle.std.specs.List.{AllByRecursion}
 use Rattle.git_model.specs.ObjectName.{IsObjectName}
-use Rattle.git_model.specs.Repository.{Object, with_object}
+use Rattle.git_model.specs.Repository.{Object, object_named, with_object}
 use Rattle.git_model.specs.Tree.{TreeEntry, CanWriteTree, tree_contents}
 use Rattle.content_pool.specs.Pool.{Cells}
 use Rattle.tenant_tables.specs.declared.fault.Fault.{Fault as TableFault}
@@ -12,6 +12,7 @@ use Rattle.tenant_tables.specs.Objects.{objects}
 use Rattle.tenant_tables.specs.IsBackedBy.{IsBackedBy}
 use Rattle.tenant_tables.specs.Trees.{IsTreeOf}
 use Rattle.tenant_tables.specs.Adding.{store_fault}
+use Rattle.tenant_tables.proofs.SumsIn.{table-sums}
 use Rattle.file_maps.specs.declared.entry.Entry.{Entry}
 use Rattle.file_maps.specs.FileMap.{Listed}
 use Rattle.file_maps.specs.Trees.{Groups, grouped, direct, depth_of, tree_content, tree_name, entries_within}
@@ -21,7 +22,7 @@ use Rattle.file_maps.specs.Storable.{AreStorable, files_summary}
 use Rattle.file_maps.proofs.Nested.{direct_of}
 use Rattle.file_maps.proofs.Sums.{IsKnown, is-tree}
 use Rattle.file_maps.proofs.ListedLater.{lists-later}
-use Rattle.file_maps.proofs.StoredTable.{table-summary}
+use Rattle.file_maps.proofs.KnownTrees.{plain-sum}
 use Rattle.file_maps.proofs.StoringHeld.{name-unopened}
 use Rattle.file_maps.proofs.ListedLater.{named-added}
 use Rattle.file_maps.proofs.TreeOf.{depth-groups}
@@ -59,7 +60,7 @@ module _ (digest : List ℕ → List ℕ) (pool : Cells) (entries : Entries) (st
   known-one n (a_directory e fs is t some) deep = λ none.
       ap (λ (id : List ℕ). summary_of id entries)
       (name-unopened digest pool (record { entries = entries; committed = 0 }) stands e.id fs t n deep)
-      ∙ table-summary digest pool entries stands e.id fs t
+      ∙ table-sums digest pool entries stands e.id ∙ plain-sum os e.id fs t
 
   known-all : (n : ℕ) (es : List TreeEntry) (parts : Groups) → HaveParts os es parts
       → AllByRecursion (λ g. depth_of g.1 ≤ n) parts → AllByRecursion (IsKnown digest n entries) parts
@@ -94,7 +95,16 @@ no_fault es id os h = by (store_fault id (tree_content es) os) h
     by (Some e) k = cc k
     by None k = refl
 
--- once it is added, a tree lists the files of its entries
+-- once it is added, a tree is there under its name
+pub added-named : (digest : List ℕ → List ℕ) (p q : Cells) (u v : View) (es : List TreeEntry)
+    → trees_fault digest (es ∷ []) (objects p u.entries) ≡ None → AddsTrees digest p u q v (es ∷ [])
+    → object_named (tree_name digest es) (objects q v.entries) ≡ Some (tree_content es)
+added-named digest p q u v es none adds =
+    let os = objects p u.entries in
+    ap (object_named (tree_name digest es)) adds.objects
+    ∙ named-added (tree_name digest es) (tree_content es) os (no_fault es (tree_name digest es) os none)
+
+-- and lists the files of its entries
 pub added-lists : (digest : List ℕ → List ℕ) (p q : Cells) (u v : View) (es : List TreeEntry) (parts : Groups)
     → HaveParts (objects p u.entries) es parts → CanWriteTree es
     → trees_fault digest (es ∷ []) (objects p u.entries) ≡ None → AddsTrees digest p u q v (es ∷ [])

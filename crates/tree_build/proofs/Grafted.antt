@@ -16,12 +16,12 @@ use Rattle.file_maps.specs.Edits.{moved, with_files, put_tree_at, put_fault}
 use Rattle.file_maps.specs.Grafts.{is_small}
 use Rattle.file_maps.specs.Storable.{files_summary}
 use Rattle.file_maps.specs.StoredFiles.{stored_files}
-use Rattle.file_maps.specs.StoredTree.{ListsTree}
+use Rattle.file_maps.specs.PlainTrees.{ListsPlain}
 use Rattle.file_maps.proofs.Apart.{both_true}
 use Rattle.file_maps.proofs.Listing.{tree-apart, tree-sound}
 use Rattle.file_maps.proofs.ListedOrder.{tree-in-order, listed-with}
 use Rattle.file_maps.proofs.StoredPut.{tree-paths}
-use Rattle.file_maps.proofs.Backed.{stored-listed, listed-summary}
+use Rattle.file_maps.proofs.KnownTrees.{known-files, plain-stored, summed-listed}
 use Rattle.tree_build.specs.Shape.{What, file, unopened, opened, shape_files, what_files}
 use Rattle.tree_build.specs.Branch.{Branch, IsWhat, IsBranch, files_in, known_tree, root_name}
 use Rattle.tree_build.specs.Limits.{may_stand, with_tree, TakesTree}
@@ -31,7 +31,7 @@ use Rattle.tree_build.proofs.Puts.{not_many}
 
 -- a stored tree with its summary
 pub record IsStored (os : List Object) (id : List ℕ) (s : Summary) : Type 0 where
-  pub tree : ListsTree os id (stored_files os id)
+  pub tree : ListsPlain os id (stored_files os id)
   pub sum : s ≡ files_summary (stored_files os id)
 
 -- ---- nothing is put
@@ -76,17 +76,17 @@ few_files top (f ∷ fs) h =
 
 -- ---- a tree of the table
 
-pub tree-here : {digest : List ℕ → List ℕ} {os : List Object} (backed : AreBacked digest os)
-    {id : List ℕ} (s : Summary) → sum_in os id ≡ Some s → IsStored os id s
-tree-here backed {id} s has =
-    let l = listed-summary backed id s has in record { tree = l.0; sum = l.1 }
+pub tree-here : {os : List Object} {id : List ℕ} (s : Summary) → sum_in os id ≡ Some s
+    → IsStored os id s
+tree-here {os} {id} s has =
+    record { tree = summed-listed os id s has; sum = (known-files os id s has).1 }
 
-pub placeable : (os : List Object) (id : List ℕ) → ListsTree os id (stored_files os id)
+pub placeable : (os : List Object) (id : List ℕ) → ListsPlain os id (stored_files os id)
     → ArePlaceable (stored_files os id)
 placeable os id t = record {
-  sound = tree-sound os id (stored_files os id) t;
-  paths = tree-paths os id (stored_files os id) t;
-  apart = tree-apart os id (stored_files os id) t;
+  sound = tree-sound os id (stored_files os id) t.tree;
+  paths = tree-paths os id (stored_files os id) t.tree;
+  apart = tree-apart os id (stored_files os id) t.tree;
 }
 
 module _ (digest : List ℕ → List ℕ) (os : List Object) (backed : AreBacked digest os) where
@@ -95,12 +95,12 @@ module _ (digest : List ℕ → List ℕ) (os : List Object) (backed : AreBacked
 
   -- ---- at the root
 
-  module _ (id : List ℕ) (t : ListsTree os id (files id))
+  module _ (id : List ℕ) (t : ListsPlain os id (files id))
       (fit : may_stand [] (files_summary (files id)) ≡ true) where
     root_len : finmap.len (with_files finmap.empty (files id)) ≡ length (files id)
     root_len =
         len-entries (with_files finmap.empty (files id))
-        ∙ ap (λ (l : Listed). length l) (listed-with (files id) (tree-in-order os id (files id) t))
+        ∙ ap (λ (l : Listed). length l) (listed-with (files id) (tree-in-order os id (files id) t.tree))
 
     root_few : (m : FileMap) → finmap.len (put_tree_at m [] (files id)) ≤ 1048576
     root_few m =
@@ -119,7 +119,7 @@ module _ (digest : List ℕ → List ℕ) (os : List Object) (backed : AreBacked
     known_files (unopened other) inside h is = ap (stored_files os) (some_is other id is)
     known_files (opened None) inside h is = cc is
     known_files (opened (Some other)) inside h is =
-        sym (stored-listed digest os backed other inside h)
+        sym (plain-stored os other inside h)
         ∙ ap (stored_files os) (some_is other id is)
 
     known_map : (b : Branch) → IsBranch os b → root_name b ≡ Some id

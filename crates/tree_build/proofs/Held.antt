@@ -10,7 +10,7 @@ use Rattle.file_maps.specs.FileMap.{Listed}
 use Rattle.file_maps.specs.Edits.{moved}
 use Rattle.file_maps.specs.Trees.{Groups, grouped, file_of, depth_of, nested_trees, unless_file}
 use Rattle.file_maps.specs.Storable.{AreStorable}
-use Rattle.file_maps.specs.StoredTree.{ListsTree}
+use Rattle.file_maps.specs.PlainTrees.{HasSummary, ListsPlain}
 use Rattle.file_maps.specs.StoredFiles.{stored_files}
 use Rattle.file_maps.specs.Storing.{AddsTrees, HasHoldsLeftBeside, trees_fault}
 use Rattle.file_maps.proofs.Apart.{all-weaker}
@@ -111,14 +111,15 @@ storable-parts parts are h =
 module _ (digest : List ℕ → List ℕ) (p : Cells) (v : View) (stands : IsBackedBy digest p v.entries)
     (room : HasHoldsLeftBeside p v.entries) where
   -- the trees of the files of a stored tree
-  pub adds-stored : (id : List ℕ) (fs : Listed) → ListsTree (objects p v.entries) id fs
+  pub adds-stored : (id : List ℕ) (fs : Listed) → ListsPlain (objects p v.entries) id fs
       → AddsTrees digest p v p v (nested_trees digest fs)
       × (trees_fault digest (nested_trees digest fs) (objects p v.entries) ≡ None)
   adds-stored id fs t =
       let good = trees-good digest p v.entries stands in
-      let held = trees-held digest (objects p v.entries) good id fs t (depth_of fs) (omega arith) in (
+      let Meant = HasSummary (objects p v.entries) in
+      let held = trees-held digest (objects p v.entries) Meant good id fs t.tree t.plain (depth_of fs) (omega arith) in (
         adds-held digest p v stands room (nested_trees digest fs) held,
-        unrefused-all digest (objects p v.entries) good (nested_trees digest fs) held,
+        unrefused-all digest (objects p v.entries) Meant good (nested_trees digest fs) held,
       )
 
   -- the same of what an entry holds, unless it is an opened directory without a name
@@ -128,7 +129,7 @@ module _ (digest : List ℕ → List ℕ) (p : Cells) (v : View) (stands : IsBac
   adds-named (file e) fs h named c = (adds-none digest p v stands room, refl)
   adds-named (unopened id) fs h named c = by id (stored_files (objects p v.entries) id) h
     where
-      by : (id : List ℕ) (fs : Listed) → ListsTree (objects p v.entries) id fs
+      by : (id : List ℕ) (fs : Listed) → ListsPlain (objects p v.entries) id fs
           → AddsTrees digest p v p v (unless_file (file_of fs) (nested_trees digest fs))
           × (trees_fault digest (unless_file (file_of fs) (nested_trees digest fs)) (objects p v.entries) ≡ None)
       by id fs t = rw (no_file (objects p v.entries) id fs t) (adds-stored id fs t)

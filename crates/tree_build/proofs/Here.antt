@@ -10,7 +10,7 @@ use Rattle.file_maps.specs.declared.entry.Entry.{Entry}
 use Rattle.file_maps.specs.FileMap.{Listed}
 use Rattle.file_maps.specs.Trees.{Groups, file_of, tree_id, entry_or, direct}
 use Rattle.file_maps.specs.StoredFiles.{stored_files}
-use Rattle.file_maps.specs.StoredTree.{ListsTree}
+use Rattle.file_maps.specs.PlainTrees.{ListsPlain}
 use Rattle.file_maps.proofs.ListedOrder.{cut-root}
 use Rattle.file_maps.proofs.Backed.{trees-good}
 use Rattle.file_maps.proofs.TreeOf.{entry_of}
@@ -46,7 +46,7 @@ module _ (digest : List ℕ → List ℕ) (os : List Object) (backed : AreBacked
   abbrev k : Known
   k = stored_files os
 
-  pub known-name : (id : List ℕ) (fs : Listed) → ListsTree os id fs → id ≡ tree_id digest fs
+  pub known-name : (id : List ℕ) (fs : Listed) → ListsPlain os id fs → id ≡ tree_id digest fs
   known-name id fs t = sym (id-again digest os (trees-good digest os backed) id fs t)
 
   pub here-unopened : (n : Node) (id : List ℕ) (e : Entry) → n ≡ node.Unopened id → IsHeld os (held n)

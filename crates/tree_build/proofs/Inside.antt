@@ -11,7 +11,7 @@ use Rattle.file_maps.specs.FileMap.{Listed}
 use Rattle.file_maps.specs.Edits.{moved}
 use Rattle.file_maps.specs.Trees.{Groups, file_of, tree_name, tree_id, tree_entries, nested_trees}
 use Rattle.file_maps.specs.StoredFiles.{stored_files}
-use Rattle.file_maps.specs.StoredTree.{ListsTree}
+use Rattle.file_maps.specs.PlainTrees.{ListsPlain}
 use Rattle.file_maps.specs.Storing.{StoresTrees, AddsSome, HasHoldsLeftBeside}
 use Rattle.file_maps.proofs.StandingGood.{trees-good}
 use Rattle.file_maps.proofs.Stored.{adds-none, some-then}
@@ -107,7 +107,7 @@ refused-inside digest p q u v s sound stands room e h =
 
 -- a directory that has its name already
 pub stores-known : (digest : List ℕ → List ℕ) (p : Cells) (u : View) (id : List ℕ) (fs : Listed)
-    → IsBackedBy digest p u.entries → HasHoldsLeftBeside p u.entries → ListsTree (objects p u.entries) id fs
+    → IsBackedBy digest p u.entries → HasHoldsLeftBeside p u.entries → ListsPlain (objects p u.entries) id fs
     → StoresTrees (Ok id) digest p u p u (nested_trees digest fs) (tree_id digest fs)
 stores-known digest p u id fs stands room t =
     let adds = adds-stored digest p u stands room id fs t in

@@ -7,20 +7,19 @@ use Rattle.tenant_tables.specs.View.{View}
 use Rattle.tenant_tables.specs.Objects.{objects}
 use Rattle.file_maps.specs.FileMap.{Listed}
 use Rattle.file_maps.specs.Edits.{moved}
-use Rattle.file_maps.specs.StoredTree.{ListsTree}
+use Rattle.file_maps.specs.PlainTrees.{ListsPlain}
 use Rattle.file_maps.specs.StoredFiles.{stored_files}
 use Rattle.file_maps.specs.Storing.{AddsTrees, StoresTrees}
 use Rattle.file_maps.specs.declared.fault.Fault.{Fault}
-use Rattle.file_maps.proofs.ListedLater.{tree-later}
-use Rattle.file_maps.proofs.StoredTable.{stored-listed}
+use Rattle.file_maps.proofs.KnownTrees.{plain-kept, plain-stored}
 use Rattle.tree_build.specs.Shape.{What, file, unopened, opened, Shape, none, row, Held, what_files, shape_files, held_files}
 use Rattle.tree_build.specs.Branch.{IsWhat, IsShape, IsHeld}
 use Rattle.tree_build.specs.Stores.{parts_of}
 
 -- stored trees stay, with their files
 pub record Grows (os after : List Object) : Type 0 where
-  pub stays : (id : List ℕ) (fs : Listed) → ListsTree os id fs → ListsTree after id fs
-  pub known : (id : List ℕ) → ListsTree os id (stored_files os id) → stored_files after id ≡ stored_files os id
+  pub stays : (id : List ℕ) (fs : Listed) → ListsPlain os id fs → ListsPlain after id fs
+  pub known : (id : List ℕ) → ListsPlain os id (stored_files os id) → stored_files after id ≡ stored_files os id
 
 module _ (os after : List Object) (grows : Grows os after) where
   what-later : (w : What) (inside new : Listed) → IsWhat os w inside → new ≡ inside
@@ -33,11 +32,11 @@ module _ (os after : List Object) (grows : Grows os after) where
       → IsWhat after w new
   sound-later (file e) inside new h same = h
   sound-later (unopened id) inside new h same =
-      subst (ListsTree after id) (sym (grows.known id h))
+      subst (ListsPlain after id) (sym (grows.known id h))
       (grows.stays id (stored_files os id) h)
   sound-later (opened None) inside new h same = tt
   sound-later (opened (Some id)) inside new h same =
-      subst (ListsTree after id) (sym same) (grows.stays id inside h)
+      subst (ListsPlain after id) (sym same) (grows.stays id inside h)
 
   pub files-later : (s : Shape) → IsShape os s
       → shape_files (stored_files after) s ≡ shape_files (stored_files os) s
@@ -79,13 +78,13 @@ pub adds-grow : (digest : List ℕ → List ℕ) (p q : Cells) (u v : View)
     (trees : List (List TreeEntry)) → AddsTrees digest p u q v trees
     → Grows (objects p u.entries) (objects q v.entries)
 adds-grow digest p q u v trees adds =
-    let stays : (id : List ℕ) (fs : Listed) → ListsTree (objects p u.entries) id fs
-    → ListsTree (objects q v.entries) id fs =
-    λ id fs t. subst (λ (os : List Object). ListsTree os id fs) (sym adds.objects)
-    (tree-later digest trees (objects p u.entries) id fs t) in record {
+    let stays : (id : List ℕ) (fs : Listed) → ListsPlain (objects p u.entries) id fs
+    → ListsPlain (objects q v.entries) id fs =
+    λ id fs t. subst (λ (os : List Object). ListsPlain os id fs) (sym adds.objects)
+    (plain-kept digest trees (objects p u.entries) id fs t) in record {
       stays = stays;
       known = λ id t.
-          stored-listed digest q v.entries adds.stands id (stored_files (objects p u.entries) id)
+          plain-stored (objects q v.entries) id (stored_files (objects p u.entries) id)
           (stays id (stored_files (objects p u.entries) id) t);
     }
 

@@ -101,7 +101,7 @@ pub dir-below : (os : List Object) (w : What) (inside : Shape)
     → IsDirectory w → AllByRecursion (λ f. f.0 ≢ [])
     (what_files (stored_files os) w (shape_files (stored_files os) inside))
 dir-below os (file e) inside s d = absurd d
-dir-below os (unopened id) inside s d = tree-below os id (stored_files os id) s
+dir-below os (unopened id) inside s d = tree-below os id (stored_files os id) s.tree
 dir-below os (opened tree) inside s d = shape_below os inside
 
 pub small-below : (c : List ℕ) (fs : Listed) → AllByRecursion (λ f. f.0 ≢ []) fs

@@ -13,7 +13,7 @@ use Rattle.file_maps.specs.declared.entry.Entry.{Entry}
 use Rattle.file_maps.specs.FileMap.{Path, Listed, FileMap}
 use Rattle.file_maps.specs.Edits.{put_tree_at}
 use Rattle.file_maps.specs.StoredFiles.{stored_files}
-use Rattle.file_maps.specs.StoredTree.{ListsTree}
+use Rattle.file_maps.specs.PlainTrees.{ListsPlain}
 use Rattle.tree_build.specs.Shape.{What, file, unopened, opened, Shape, none, row, Held, Directory, Known, what_files, shape_files, held_files}
 use Rattle.tree_build.specs.Branch.{Branch, files_in, IsDirectory, IsWhat, IsShape, IsHeld, IsBranch, closed_by, closed_along, closed_from}
 use Rattle.tree_build.specs.Editing.{child, removed, inserted, changed, new_directory, entries_in, is_opened, has_opened, placed, taken_by, taken_at, taken}
@@ -181,7 +181,7 @@ module _ (os : List Object) (h : Held) where
   }
 
   pub puts_unopened : (id : List ℕ) (first new : Directory) (rest : Path) (gone : ℕ)
-      → ListsTree os id (stored_files os id) → IsOpening os id first → PutsAlong os rest h first new gone
+      → ListsPlain os id (stored_files os id) → IsOpening os id first → PutsAlong os rest h first new gone
       → PutsHeld os rest h (record { what = unopened id; inside = none }) (record { what = opened new.tree; inside = new.entries }) gone
   puts_unopened id first new rest gone lists o puts = record {
     tree = first.tree;

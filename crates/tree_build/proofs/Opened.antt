@@ -17,11 +17,13 @@ use Rattle.file_maps.specs.FileMap.{Listed}
 use Rattle.file_maps.specs.Edits.{moved}
 use Rattle.file_maps.specs.StoredFiles.{stored_files}
 use Rattle.file_maps.specs.StoredAgain.{IsFilled, AreTreesGood}
-use Rattle.file_maps.specs.StoredTree.{HasTree, file_from, Lists, nothing, first_file, first_directory, ListsTree}
+use Rattle.file_maps.specs.PlainTrees.{HasSummary, ListsPlain}
+use Rattle.file_maps.specs.StoredTree.{HasTree, file_from, Lists, nothing, first_file, first_directory}
 use Rattle.file_maps.proofs.Listing.{Distinct, distinct, has-only}
 use Rattle.file_maps.proofs.ListedOrder.{Rises, rises}
-use Rattle.file_maps.proofs.StoredAgain.{lists-some}
-use Rattle.file_maps.proofs.Backed.{trees-good, stored-listed, tree-listed}
+use Rattle.file_maps.proofs.StoredAgain.{filled-in, lists-some}
+use Rattle.file_maps.proofs.Backed.{trees-good}
+use Rattle.file_maps.proofs.KnownTrees.{has-files, plain-stored}
 use Rattle.tree_build.specs.declared.dir.Node.{Node}
 use Rattle.tree_build.specs.Shape.{What, file, Shape, none, Held, Directory, what_files, shape_files}
 use Rattle.tree_build.specs.Branch.{slash_after, key_of, IsNodeBefore, IsBeforeAll, IsWhat, IsShape}
@@ -96,44 +98,49 @@ module _ (digest : List ℕ → List ℕ) (os : List Object) (backed : AreBacked
   abbrev known : List ℕ → Listed
   known = stored_files os
 
-  abbrev good : AreTreesGood digest os
+  abbrev Filled : TreeEntry → Type 0
+  Filled = IsFilled os (HasSummary os)
+
+  abbrev good : AreTreesGood digest os (HasSummary os)
   good = trees-good digest os backed
 
-  tree_files : {es : List TreeEntry} {fs : Listed} → Lists os es fs → shape_files known (tree_shape es) ≡ fs
-  tree_files nothing = refl
-  tree_files (first_file e es files ne l) =
+  tree_files : {es : List TreeEntry} {fs : Listed} → Lists os es fs → AllByRecursion Filled es
+      → shape_files known (tree_shape es) ≡ fs
+  tree_files nothing f = refl
+  tree_files (first_file e es files ne l) f =
       ap (λ (w : What). moved (e.name ∷ []) (what_files known w []) ++ shape_files known (tree_shape es))
       (what_file e.mode e.id (record { mode = e.mode; name = e.id }) ne)
-      ∙ ap (λ (r : Listed). file_from e ∷ r) (tree_files l)
-  tree_files (first_directory e es inside under files is has sub l) =
+      ∙ ap (λ (r : Listed). file_from e ∷ r) (tree_files l f.1)
+  tree_files (first_directory e es inside under files is has sub l) f =
       ap (λ (m : FileMode). moved (e.name ∷ []) (what_files known (what_by m e.id (record { mode = e.mode; name = e.id })) []) ++ shape_files known (tree_shape es)) is
       ∙ ap (λ (u : Listed). moved (e.name ∷ []) u ++ shape_files known (tree_shape es))
-      (stored-listed digest os backed e.id under (record { direct = inside; tree = has; lists = sub }))
-      ∙ ap (λ (r : Listed). moved (e.name ∷ []) under ++ r) (tree_files l)
+      (plain-stored os e.id under
+      (record { tree = record { direct = inside; tree = has; lists = sub }; plain = (f.0 is).meant }))
+      ∙ ap (λ (r : Listed). moved (e.name ∷ []) under ++ r) (tree_files l f.1)
 
-  entry_sound : (e : TreeEntry) → CanWriteEntry e → IsFilled os e → (m : FileMode) → e.mode ≡ m
+  entry_sound : (e : TreeEntry) → CanWriteEntry e → Filled e → (m : FileMode) → e.mode ≡ m
       → IsWhat os (what_by m e.id (record { mode = e.mode; name = e.id })) []
       × (what_files known (what_by m e.id (record { mode = e.mode; name = e.id })) [] ≢ [])
   entry_sound e w f mode.Directory is =
       let inside = f is in
-      let lists = tree-listed digest os backed e.id inside.inside inside.tree in (
+      let lists = has-files os e.id inside.meant in (
         lists,
         some_listed lists inside.inside inside.tree inside.some,
       )
     where
-      some_listed : (t : ListsTree os e.id (known e.id)) (es : List TreeEntry) → HasTree os e.id es → es ≢ []
+      some_listed : (t : ListsPlain os e.id (known e.id)) (es : List TreeEntry) → HasTree os e.id es → es ≢ []
           → known e.id ≢ []
       some_listed t es has some =
-          lists-some digest os good t.lists
-          (recursion_from_All (IsFilled os) t.direct (good.filled e.id t.direct t.tree))
-          (λ no. some (has-only os e.id es t.direct has t.tree ∙ no))
+          lists-some digest os (HasSummary os) good t.tree.lists
+          (filled-in digest os (HasSummary os) good e.id t.tree.direct t.tree.tree t.plain)
+          (λ no. some (has-only os e.id es t.tree.direct has t.tree.tree ∙ no))
   entry_sound e w f mode.Regular is = ((λ d. cc (sym is ∙ d), w.id), λ no. cc no)
   entry_sound e w f mode.Executable is = ((λ d. cc (sym is ∙ d), w.id), λ no. cc no)
   entry_sound e w f mode.Symlink is = ((λ d. cc (sym is ∙ d), w.id), λ no. cc no)
   entry_sound e w f mode.Gitlink is = ((λ d. cc (sym is ∙ d), w.id), λ no. cc no)
 
   tree_sound : (es : List TreeEntry) → Distinct es → Rises es → AllByRecursion CanWriteEntry es
-      → AllByRecursion (IsFilled os) es → IsShape os (tree_shape es)
+      → AllByRecursion Filled es → IsShape os (tree_shape es)
   tree_sound [] d r w f = tt
   tree_sound (e ∷ es) d r w f =
       let here = entry_sound e w.0 f.0 e.mode refl in (
@@ -143,17 +150,17 @@ module _ (digest : List ℕ → List ℕ) (os : List Object) (backed : AreBacked
         tree_sound es d.1 r.1 w.1 f.1,
       )
 
-  pub opens : (id : List ℕ) (es : List TreeEntry) → HasTree os id es
+  pub opens : (id : List ℕ) (es : List TreeEntry) → HasTree os id es → HasSummary os id
       → (s : Shape) → s ≡ tree_shape es
       → (d : Directory) → d.tree ≡ Some id → d.entries ≡ s → IsOpening os id d
-  opens id es has s is d tree in_it =
-      let t = tree-listed digest os backed id es has in
+  opens id es has plain s is d tree in_it =
+      let t = (has-files os id plain).tree in
+      let filled = filled-in digest os (HasSummary os) good id es has plain in
       let writable = recursion_from_All CanWriteEntry es has.entries.entries in
-      let shape = tree_sound es (distinct es has.entries.names_are_distinct) (rises es has.entries.in_order) writable
-      (recursion_from_All (IsFilled os) es (good.filled id es has)) in
+      let shape = tree_sound es (distinct es has.entries.names_are_distinct) (rises es has.entries.in_order) writable filled in
       let lists = subst (λ (x : List TreeEntry). Lists os x (known id)) (has-only os id t.direct es t.tree has) t.lists in
       record {
         tree = tree;
         sound = subst (IsShape os) (sym (in_it ∙ is)) shape;
-        files = ap (shape_files known) (in_it ∙ is) ∙ tree_files lists;
+        files = ap (shape_files known) (in_it ∙ is) ∙ tree_files lists filled;
       }

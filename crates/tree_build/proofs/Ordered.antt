@@ -52,7 +52,7 @@ module _ (os : List Object) where
   pub marked : (w : What) (inside : Shape) → IsWhat os w (shape_files known inside)
       → AllByRecursion (λ g. mark g.0 ≡ slash_after w) (what_files known w (shape_files known inside))
   marked (file e) inside h = (refl, tt)
-  marked (unopened id) inside h = marks (known id) (tree-below os id (known id) h)
+  marked (unopened id) inside h = marks (known id) (tree-below os id (known id) h.tree)
   marked (opened tree) inside h = marks (shape_files known inside) (shape_below inside)
 
   before : (c : Bytes) (w : What) (p : Path) (d : Bytes) (v : What) (inside : Listed) → mark p ≡ slash_after w
@@ -87,7 +87,7 @@ module _ (os : List Object) where
       → AreInOrder (moved (c ∷ []) (what_files known w (shape_files known inside)))
   row_in_order c (file e) inside h k = (tt, tt)
   row_in_order c (unopened id) inside h k =
-      order-moved c (known id) (tree-below os id (known id) h) (tree-in-order os id (known id) h)
+      order-moved c (known id) (tree-below os id (known id) h.tree) (tree-in-order os id (known id) h.tree)
   row_in_order c (opened tree) inside h k =
       order-moved c (shape_files known inside) (shape_below inside) k
 
@@ -111,7 +111,7 @@ module _ (os : List Object) where
       by : (w : What) → IsWhat os w (shape_files known h.inside)
           → AreInOrder (what_files known w (shape_files known h.inside))
       by (file e) s = (tt, tt)
-      by (unopened id) s = tree-in-order os id (known id) s
+      by (unopened id) s = tree-in-order os id (known id) s.tree
       by (opened tree) s = shape_in_order h.inside k.1
 
   -- the map lists what the tree of directories lists

@@ -5,7 +5,8 @@ use Rattle.git_model.specs.Tree.{TreeEntry}
 use Rattle.file_maps.specs.declared.entry.Entry.{Entry}
 use Rattle.file_maps.specs.FileMap.{Listed}
 use Rattle.file_maps.specs.Trees.{Groups, file_of, direct, depth_of, tree_name, tree_id}
-use Rattle.file_maps.specs.StoredTree.{Lists, nothing, first_file, first_directory, ListsTree}
+use Rattle.file_maps.specs.PlainTrees.{HasSummary, ListsPlain}
+use Rattle.file_maps.specs.StoredTree.{Lists, nothing, first_file, first_directory}
 use Rattle.file_maps.specs.StoredAgain.{AreTreesGood}
 use Rattle.file_maps.proofs.Listing.{tree-sound}
 use Rattle.file_maps.proofs.TreeOf.{entry_of}
@@ -25,20 +26,20 @@ lists-parts os (e ∷ es) (g ∷ parts) h = one h.0 (lists-parts os es parts h.1
         → Lists os (x ∷ es) (spread (p ∷ parts))
     one (a_file x ne) l = first_file x es (spread parts) ne l
     one (a_directory x files is t some) l =
-        first_directory x es t.direct files (spread parts) is t.tree t.lists l
+        first_directory x es t.tree.direct files (spread parts) is t.tree.tree t.tree.lists l
 
-pub no_file : (os : List Object) (id : List ℕ) (fs : Listed) → ListsTree os id fs
+pub no_file : (os : List Object) (id : List ℕ) (fs : Listed) → ListsPlain os id fs
     → file_of fs ≡ None
 no_file os id [] t = refl
-no_file os id (([], x) ∷ fs) t = absurd ((tree-sound os id (([], x) ∷ fs) t).0.below_the_root refl)
+no_file os id (([], x) ∷ fs) t = absurd ((tree-sound os id (([], x) ∷ fs) t.tree).0.below_the_root refl)
 no_file os id (((c ∷ q), x) ∷ fs) t = refl
 
-module _ (digest : List ℕ → List ℕ) (os : List Object) (good : AreTreesGood digest os) where
+module _ (digest : List ℕ → List ℕ) (os : List Object) (good : AreTreesGood digest os (HasSummary os)) where
   -- the name of a stored tree is that of its files
-  pub id-again : (id : List ℕ) (fs : Listed) → ListsTree os id fs → tree_id digest fs ≡ id
+  pub id-again : (id : List ℕ) (fs : Listed) → ListsPlain os id fs → tree_id digest fs ≡ id
   id-again id fs t =
-      ap (tree_name digest) (entries-again digest os good id fs t (depth_of fs) (omega arith))
-      ∙ sym (good.named id t.direct t.tree)
+      ap (tree_name digest) (entries-again digest os (HasSummary os) good id fs t.tree t.plain (depth_of fs) (omega arith))
+      ∙ sym (good.named id t.tree.direct t.tree.tree)
 
   entry-again : {e : TreeEntry} {g : List ℕ × Listed} → IsPart os e g → entry_of digest g ≡ e
   entry-again (a_file e ne) = refl

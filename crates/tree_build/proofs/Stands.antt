@@ -10,9 +10,9 @@ use Rattle.tenant_tables.specs.IsBackedBy.{AreBacked}
 use Rattle.file_maps.specs.FileMap.{Path, Listed}
 use Rattle.file_maps.specs.Edits.{cut, moved}
 use Rattle.file_maps.specs.StoredFiles.{stored_files}
-use Rattle.file_maps.specs.StoredTree.{ListsTree}
+use Rattle.file_maps.specs.PlainTrees.{ListsPlain}
 use Rattle.file_maps.proofs.ListedOrder.{cut-root}
-use Rattle.file_maps.proofs.Backed.{stored-listed}
+use Rattle.file_maps.proofs.KnownTrees.{plain-stored}
 use Rattle.tree_build.specs.Shape.{What, file, unopened, opened, Shape, none, row, Held, Known, what_files, shape_files, held_files}
 use Rattle.tree_build.specs.Branch.{slash_after, key_of, IsBeforeAll, IsWhat, IsShape, IsHeld, closed_by, closed_along}
 use Rattle.tree_build.specs.Editing.{child}
@@ -137,7 +137,7 @@ module _ (digest : List ℕ → List ℕ) (os : List Object) (backed : AreBacked
   what-copied (file e) inside s same = refl
   what-copied (unopened id) inside s same = refl
   what-copied (opened None) inside s same = same
-  what-copied (opened (Some id)) inside s same = stored-listed digest os backed id
+  what-copied (opened (Some id)) inside s same = plain-stored os id
       (files inside) s
 
   sound-copied : (w : What) (inside : Shape) → IsWhat os w (files inside)
@@ -146,7 +146,7 @@ module _ (digest : List ℕ → List ℕ) (os : List Object) (backed : AreBacked
   sound-copied (unopened id) inside s = s
   sound-copied (opened None) inside s = tt
   sound-copied (opened (Some id)) inside s =
-      subst (ListsTree os id) (sym (stored-listed digest os backed id (files inside) s)) s
+      subst (ListsPlain os id) (sym (plain-stored os id (files inside) s)) s
 
   inside-copied : (w : What) (inside : Shape) → IsShape os inside
       → IsShape os (copied_inside w inside)

@@ -17,7 +17,7 @@ use Rattle.file_maps.specs.Edits.{with_files}
 use Rattle.file_maps.specs.Trees.{file_of, depth_of, tree_name, tree_id, nested_trees, trees_within}
 use Rattle.file_maps.specs.Storable.{AreStorable}
 use Rattle.file_maps.specs.StoredFiles.{stored_files}
-use Rattle.file_maps.specs.StoredTree.{ListsTree}
+use Rattle.file_maps.specs.PlainTrees.{ListsPlain}
 use Rattle.file_maps.specs.Storing.{StoresTrees, AddsSome, HasHoldsLeftBeside}
 use Rattle.file_maps.proofs.Cutting.{storable-cut, trees-none, entries-none}
 use Rattle.file_maps.proofs.ListedOrder.{cut-root}
@@ -98,7 +98,7 @@ pub opened-later : (os after : List Object) → Grows os after → (tree : Optio
     → IsHeld after (record { what = opened tree; inside = new })
 opened-later os after grows None s new h same sound = (tt, sound)
 opened-later os after grows (Some id) s new h same sound = (
-  subst (ListsTree after id) (sym (files-stay os after grows s new h.1 same)) (grows.stays id _ h.0),
+  subst (ListsPlain after id) (sym (files-stay os after grows s new h.1 same)) (grows.stays id _ h.0),
   sound,
 )
 

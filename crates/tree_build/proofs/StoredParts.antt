@@ -15,13 +15,15 @@ use Rattle.file_maps.specs.FileMap.{Path, Listed}
 use Rattle.file_maps.specs.Edits.{cut, moved}
 use Rattle.file_maps.specs.Trees.{Groups, file_of, directory, entry_or}
 use Rattle.file_maps.specs.ByComponent.{what}
-use Rattle.file_maps.specs.StoredTree.{HasTree, Lists, nothing, first_file, first_directory, ListsTree}
+use Rattle.file_maps.specs.PlainTrees.{HasSummary, ListsPlain}
+use Rattle.file_maps.specs.StoredTree.{HasTree, Lists, nothing, first_file, first_directory}
 use Rattle.file_maps.specs.StoredAgain.{IsFilled, AreTreesGood}
 use Rattle.file_maps.specs.StoredFiles.{stored_files}
 use Rattle.file_maps.proofs.Listing.{Distinct, distinct, has-only}
 use Rattle.file_maps.proofs.ListedOrder.{cut-root}
 use Rattle.file_maps.proofs.StoredAgain.{lists-some, inside-some, filled-in}
-use Rattle.file_maps.proofs.Backed.{trees-good, stored-listed}
+use Rattle.file_maps.proofs.Backed.{trees-good}
+use Rattle.file_maps.proofs.KnownTrees.{plain-stored}
 use Rattle.tree_build.specs.Parts.{spread, part_of, AreParts}
 use Rattle.tree_build.specs.Rows.{IsPart, a_file, a_directory, HaveParts}
 use Rattle.tree_build.specs.Standing.{HasEntry, stands_at, row_named, IsFoundAt}
@@ -52,7 +54,7 @@ record PartsOf (os : List Object) (es : List TreeEntry) (fs : Listed) : Type 0 w
   is : fs ≡ spread parts
   are : AreParts parts
 
-module _ (digest : List ℕ → List ℕ) (os : List Object) (good : AreTreesGood digest os) where
+module _ (digest : List ℕ → List ℕ) (os : List Object) (good : AreTreesGood digest os (HasSummary os)) where
   names-differ : (c : List ℕ) (es : List TreeEntry) (parts : Groups) → HaveParts os es parts
       → AllByRecursion (λ d. c ≢ d.name) es → AllByRecursion (λ h. c ≢ h.0) parts
   names-differ c [] [] h d = tt
@@ -65,7 +67,7 @@ module _ (digest : List ℕ → List ℕ) (os : List Object) (good : AreTreesGoo
       one (a_directory x files is t some) k = k
 
   parts-of : {es : List TreeEntry} {fs : Listed} → Lists os es fs → Distinct es
-      → AllByRecursion (IsFilled os) es → PartsOf os es fs
+      → AllByRecursion (IsFilled os (HasSummary os)) es → PartsOf os es fs
   parts-of nothing d h = record { parts = []; have = tt; is = refl; are = tt }
   parts-of (first_file e es files ne l) d h =
       let rest = parts-of l d.1 h.1 in record {
@@ -76,10 +78,15 @@ module _ (digest : List ℕ → List ℕ) (os : List Object) (good : AreTreesGoo
       }
   parts-of (first_directory e es inside below files is has sub l) d h =
       let rest = parts-of l d.1 h.1 in
-      let some = lists-some digest os good sub (filled-in digest os good e.id inside has)
-      (inside-some digest os good e inside h.0 is has) in record {
+      let plain = (h.0 is).meant in
+      let some = lists-some digest os (HasSummary os) good sub
+      (filled-in digest os (HasSummary os) good e.id inside has plain)
+      (inside-some digest os (HasSummary os) good e inside h.0 is has) in record {
         parts = (e.name, below) ∷ rest.parts;
-        have = (a_directory e below is (record { direct = inside; tree = has; lists = sub }) some, rest.have);
+        have = (
+          a_directory e below is (record { tree = record { direct = inside; tree = has; lists = sub }; plain = plain }) some,
+          rest.have,
+        );
         is = ap (λ (l : Listed). moved (e.name ∷ []) below ++ l) rest.is;
         are = (some, names-differ e.name es rest.parts rest.have d.0, rest.are);
       }
@@ -132,24 +139,24 @@ of_file (a_file e ne) k = refl
 of_file (a_directory e fs is t some) k = absurd (k is)
 
 pub of_directory : {os : List Object} {e : TreeEntry} {g : List ℕ × Listed} → IsPart os e g → e.mode ≡ mode.Directory
-    → ListsTree os e.id g.1 × (g.1 ≢ [])
+    → ListsPlain os e.id g.1 × (g.1 ≢ [])
 of_directory (a_file e ne) k = absurd (ne k)
 of_directory (a_directory e fs is t some) k = (t, some)
 
 module _ (digest : List ℕ → List ℕ) (os : List Object) (backed : AreBacked digest os)
-    (id : List ℕ) (t : ListsTree os id (stored_files os id))
+    (id : List ℕ) (t : ListsPlain os id (stored_files os id))
     (rows : List TreeEntry) (has : HasTree os id rows) where
   abbrev fs : Listed
   fs = stored_files os id
 
-  good : AreTreesGood digest os
+  good : AreTreesGood digest os (HasSummary os)
   good = trees-good digest os backed
 
   own : PartsOf os rows (stored_files os id)
   own =
-      let same = has-only os id t.direct rows t.tree has in
-      parts-of digest os good (subst (λ (es : List TreeEntry). Lists os es fs) same t.lists)
-      (distinct rows has.entries.names_are_distinct) (filled-in digest os good id rows has)
+      let same = has-only os id t.tree.direct rows t.tree.tree has in
+      parts-of digest os good (subst (λ (es : List TreeEntry). Lists os es fs) same t.tree.lists)
+      (distinct rows has.entries.names_are_distinct) (filled-in digest os (HasSummary os) good id rows has t.plain)
 
   below : (c : List ℕ) (rest : Path) → stands_at digest fs (c ∷ rest) ≡ stands_at digest (part_of c own.parts) rest
   below c rest =
@@ -169,12 +176,12 @@ module _ (digest : List ℕ → List ℕ) (os : List Object) (backed : AreBacked
 
   pub below-directory : (c : List ℕ) (rest : Path) (e : TreeEntry) → row_named rows c ≡ Some e → e.mode ≡ mode.Directory
       → (stands_at digest fs (c ∷ rest) ≡ stands_at digest (stored_files os e.id) rest)
-      × ListsTree os e.id (stored_files os e.id) × (stored_files os e.id ≢ [])
+      × ListsPlain os e.id (stored_files os e.id) × (stored_files os e.id ≢ [])
   below-directory c rest e is dir =
       let part = of_directory (part-some os rows own.parts own.have c e is) dir in
-      let same : stored_files os e.id ≡ part_of c own.parts = stored-listed digest os backed e.id _ part.0 in (
+      let same : stored_files os e.id ≡ part_of c own.parts = plain-stored os e.id _ part.0 in (
         below c rest ∙ ap (λ (l : Listed). stands_at digest l rest) (sym same),
-        subst (ListsTree os e.id) (sym same) part.0,
+        subst (ListsPlain os e.id) (sym same) part.0,
         λ no. part.1 (sym same ∙ no),
       )
 
@@ -214,7 +221,7 @@ module _ (digest : List ℕ → List ℕ) (os : List Object) (backed : AreBacked
       → cut (c ∷ rest) fs ≡ cut rest (stored_files os e.id)
   found-directory c rest e is dir =
       let part = of_directory (part-some os rows own.parts own.have c e is) dir in
-      cut-below c rest ∙ ap (cut rest) (sym (stored-listed digest os backed e.id _ part.0))
+      cut-below c rest ∙ ap (cut rest) (sym (plain-stored os e.id _ part.0))
 
   unnamed_part : {e : TreeEntry} {g : List ℕ × Listed} → IsPart os e g
       → IsPart os (record { mode = e.mode; name = []; id = e.id }) ([], g.1)
@@ -239,7 +246,7 @@ not_found None h = refl
 not_found (Some e) h = cc h
 
 module _ {digest : List ℕ → List ℕ} {os : List Object} (backed : AreBacked digest os)
-    {id : List ℕ} (t : ListsTree os id (stored_files os id))
+    {id : List ℕ} (t : ListsPlain os id (stored_files os id))
     {c : List ℕ} {o : Option Entry} (named : HasEntry os id c o) where
   abbrev rows : List TreeEntry
   rows = named.rows
@@ -283,7 +290,7 @@ module _ {digest : List ℕ → List ℕ} {os : List Object} (backed : AreBacked
   pub record IsBelow (id_below : List ℕ) (rest : Path) : Type 0 where
     pub same : stands_at digest (stored_files os id) (c ∷ rest)
         ≡ stands_at digest (stored_files os id_below) rest
-    pub tree : ListsTree os id_below (stored_files os id_below)
+    pub tree : ListsPlain os id_below (stored_files os id_below)
     pub files : cut (c ∷ rest) (stored_files os id)
         ≡ cut rest (stored_files os id_below)
 

@@ -12,7 +12,7 @@ use Rattle.git_model.specs.Tree.{IsEntryName}
 use Rattle.file_maps.specs.FileMap.{Path, Listed, FileMap, AreFiles, listed}
 use Rattle.file_maps.specs.Edits.{with_files}
 use Rattle.file_maps.specs.StoredFiles.{stored_files}
-use Rattle.file_maps.specs.StoredTree.{ListsTree}
+use Rattle.file_maps.specs.PlainTrees.{ListsPlain}
 use Rattle.tree_build.specs.Shape.{What, file, unopened, opened, Shape, none, row, Held, what_files, shape_files, held_files}
 
 -- What is held at the root, the number of its files, and how many trees were read.
@@ -55,9 +55,9 @@ IsBeforeAll c what (row d other inside rest) =
 -- opened directory has the name of a stored tree, it has the files that this tree lists.
 abbrev pub IsWhat : List Object → What → Listed → Type 0
 IsWhat os (file e) inside = (e.mode ≢ mode.Directory) × IsObjectName e.name
-IsWhat os (unopened id) inside = ListsTree os id (stored_files os id)
+IsWhat os (unopened id) inside = ListsPlain os id (stored_files os id)
 IsWhat os (opened None) inside = Unit {0}
-IsWhat os (opened (Some id)) inside = ListsTree os id inside
+IsWhat os (opened (Some id)) inside = ListsPlain os id inside
 
 -- A direct entry has a name that Git allows, and no directory below the root is empty.
 pub record IsRow (os : List Object) (c : List ℕ) (what : What) (inside : Listed) : Type 0 where

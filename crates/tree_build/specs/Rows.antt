@@ -6,13 +6,13 @@ use Rattle.git_model.specs.Tree.{TreeEntry}
 use Rattle.file_maps.specs.FileMap.{Listed}
 use Rattle.file_maps.specs.Trees.{Groups}
 use Rattle.file_maps.specs.ByComponent.{what}
-use Rattle.file_maps.specs.StoredTree.{ListsTree}
+use Rattle.file_maps.specs.PlainTrees.{ListsPlain}
 
 -- The files of an entry: the entry itself, or those of a stored tree that is not empty.
 pub data IsPart (os : List Object) : TreeEntry → List ℕ × Listed → Type 0 where
   a_file : (e : TreeEntry) → e.mode ≢ mode.Directory → IsPart os e (e.name, ([], what e) ∷ [])
   a_directory : (e : TreeEntry) (files : Listed) → e.mode ≡ mode.Directory
-      → ListsTree os e.id files → files ≢ [] → IsPart os e (e.name, files)
+      → ListsPlain os e.id files → files ≢ [] → IsPart os e (e.name, files)
 
 -- The same for each entry of a row.
 abbrev pub HaveParts : List Object → List TreeEntry → Groups → Type 0

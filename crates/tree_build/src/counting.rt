@@ -2,7 +2,7 @@
 
 ghost use Rattle.std.specs.Prelude.{◌≡◌, ◌≤◌, length, Some};
 ghost use Rattle.git_model.specs.Limits.{files_limit};
-ghost use Rattle.file_maps.specs.{StoredFiles.{stored_files}, StoredTree.{ListsTree}};
+ghost use Rattle.file_maps.specs.{StoredFiles.{stored_files}, PlainTrees.{ListsPlain}};
 ghost use Rattle.tree_build.specs.{Shape.{shape_files, held_files}, Branch.{IsShape, IsHeld}};
 ghost use Rattle.tree_build.specs.{Nodes.{held, shape_of}, Editing.{entries_in, taken, taken_at}};
 
@@ -14,10 +14,9 @@ use tenant_tables::Objects;
 
 // How many files a stored tree has.
 fn count_stored<N: Naming>(objects: &Objects<'_, N>, id: &Name) -> usize
-    requires { ListsTree objects.now id.now (stored_files objects.now id.now) }
+    requires { ListsPlain objects.now id.now (stored_files objects.now id.now) }
     ensures { result ≡ length (stored_files objects.now id.now) }
 {
-    objects.are_backed();
     match objects.summary(id) {
         Some(summary) => summary.files as usize,
         None => 0,

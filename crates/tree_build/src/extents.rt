@@ -32,7 +32,6 @@ pub(crate) fn extent<N: Naming>(objects: &Objects<'_, N>, node: &Node) -> Summar
         (stored_files objects.now) (held node.now))) }
     ensures { result ≡ files_summary (held_files (stored_files objects.now) (held node.now)) }
 {
-    objects.are_backed();
     match node {
         Node::File(_) => file_here(),
         Node::Unopened(tree) => objects.summary(tree).unwrap_or(no_files()),
@@ -49,7 +48,6 @@ fn extent_of_dir<N: Naming>(objects: &Objects<'_, N>, dir: &Dir) -> Summary
         (stored_files objects.now) dir.now.entries)) }
     ensures { result ≡ files_summary (shape_files (stored_files objects.now) dir.now.entries) }
 {
-    objects.are_backed();
     match dir.tree {
         Some(tree) => objects.summary(&tree).unwrap_or(no_files()),
         None => extent_of_all(objects, &dir.entries),

@@ -6,7 +6,7 @@ ghost use Rattle.tenant_tables.specs.{Objects.{objects}, IsBackedBy.{IsBackedBy}
 ghost use Rattle.git_paths.specs.Paths.{strip_prefix};
 ghost use Rattle.file_maps.specs.{Calls.{Edits}, FileMap.{Path as FilePath}, Grafts.{Grafts}};
 ghost use Rattle.file_maps.specs.{Edits.{moved, put_tree_at, put_fault}, Storable.{files_summary}};
-ghost use Rattle.file_maps.specs.{StoredFiles.{stored_files}, StoredTree.{ListsTree}};
+ghost use Rattle.file_maps.specs.{StoredFiles.{stored_files}, PlainTrees.{ListsPlain}};
 ghost use Rattle.tree_build.specs.Branch.{files_in, IsBranch, root_name, CountsAtMost, closed_from};
 ghost use Rattle.tree_build.specs.Limits.{may_stand, TakesTree};
 ghost use Rattle.file_maps.specs.declared.fault.Fault.TheVariants as fault;
@@ -111,7 +111,7 @@ impl Files {
     ) -> Result<(), Fault>
         requires branch { IsBranch objects.now self.old }
         requires some { path.now ≢ [] }
-        requires tree { ListsTree objects.now name.now (stored_files objects.now name.now) }
+        requires tree { ListsPlain objects.now name.now (stored_files objects.now name.now) }
         requires files { files ≡ length (stored_files objects.now name.now) }
         requires fits { may_stand path.now
             (files_summary (stored_files objects.now name.now)) ≡ true }

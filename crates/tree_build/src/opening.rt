@@ -3,7 +3,7 @@
 ghost use Rattle.std.specs.Prelude.{◌≡◌, Some, All, IfOk, OnOk};
 ghost use Rattle.git_model.specs.Tree.{IsEntryName, CanWriteEntry};
 ghost use Rattle.git_objects.specs.Parts.{entry_of, entries_of};
-ghost use Rattle.file_maps.specs.{StoredTree.{ListsTree}, StoredFiles.{stored_files}};
+ghost use Rattle.file_maps.specs.{PlainTrees.{ListsPlain}, StoredFiles.{stored_files}};
 ghost use Rattle.tree_build.specs.Branch.{IsShape, IsHeld, closed_along, closed_from};
 ghost use Rattle.tree_build.specs.{Nodes.{held, shape_of}, Opened.{ReadsMore}};
 ghost use Rattle.tree_build.specs.Opened.{entry_held, tree_shape, IsOpening, OpensAlong, OpensHeld};
@@ -55,7 +55,7 @@ pub(crate) fn open<N: Naming>(
     objects: &Objects<'_, N>,
     id: &Name,
 ) -> Result<Dir, Memory>
-    requires tree { ListsTree objects.now id.now (stored_files objects.now id.now) }
+    requires tree { ListsPlain objects.now id.now (stored_files objects.now id.now) }
     ensures { IfOk result (λ d. IsOpening objects.now id.now d) }
 {
     objects.are_backed();

@@ -3,7 +3,7 @@
 ghost use Rattle.std.specs.{Prelude.{◌≡◌, ◌≤◌, ◌+◌, ◌∷◌, length, IfOk}, Option.{option_map}};
 ghost use Rattle.git_objects.specs.Parts.{entries_of};
 ghost use Rattle.file_maps.specs.{ByComponent.{what}, Edits.{cut}, StoredFiles.{stored_files}};
-ghost use Rattle.file_maps.specs.StoredTree.{ListsTree};
+ghost use Rattle.file_maps.specs.PlainTrees.{ListsPlain};
 ghost use Rattle.tree_build.specs.Standing.{stands_at, row_named, HasEntry, IsFoundAt};
 
 use file_maps::{Entry, read_entries};
@@ -34,7 +34,7 @@ fn row_at<N: Naming>(
     tree: &Name,
     name: &[u8],
 ) -> Result<Option<Entry>, Memory>
-    requires tree { ListsTree objects.now tree.now (stored_files objects.now tree.now) }
+    requires tree { ListsPlain objects.now tree.now (stored_files objects.now tree.now) }
     ensures { IfOk result (λ o. HasEntry objects.now tree.now name.now o) }
 {
     let rows = read_entries(alloc, objects, tree)?;
@@ -52,7 +52,7 @@ pub(crate) fn stored_entry<N: Naming>(
     rest: &Components<'_>,
     reads: &mut u64,
 ) -> Result<Option<Entry>, Memory>
-    requires tree { ListsTree objects.now tree.now (stored_files objects.now tree.now) }
+    requires tree { ListsPlain objects.now tree.now (stored_files objects.now tree.now) }
     ensures entry { IfOk result (λ o. o ≡ stands_at N.digest_of
         (stored_files objects.now tree.now) (name.now ∷ rest.now)) }
     ensures found { IfOk result (λ o. IsFoundAt objects.now o

@@ -6,7 +6,7 @@ ghost use Rattle.git_objects.specs.Parts.{entry_of};
 ghost use Rattle.tenant_tables.specs.{Objects.{objects}, IsBackedBy.{IsBackedBy}};
 ghost use Rattle.file_maps.specs.Trees.{nested_trees, tree_id, tree_name, file_of};
 ghost use Rattle.file_maps.specs.{Storable.{AreStorable}, StoredFiles.{stored_files}};
-ghost use Rattle.file_maps.specs.StoredTree.{ListsTree};
+ghost use Rattle.file_maps.specs.PlainTrees.{ListsPlain};
 ghost use Rattle.file_maps.specs.Storing.{StoresTrees, HasHoldsLeftBeside};
 ghost use Rattle.tree_build.specs.{Shape.{opened, shape_files, held_files}, Nodes.{held, shape_of}};
 ghost use Rattle.tree_build.specs.Branch.{IsShape, IsHeld};
@@ -173,7 +173,7 @@ fn add_tree<N: Naming>(
     ensures stores { StoresTrees result N.digest_of pool.old table.old pool.new table.new
         (entries_of_shape (shape_of entries.now.items) ∷ [])
         (tree_name N.digest_of (entries_of_shape (shape_of entries.now.items))) }
-    ensures lists { IfOk result (λ id. ListsTree (objects pool.new table.new.entries) id
+    ensures lists { IfOk result (λ id. ListsPlain (objects pool.new table.new.entries) id
         (shape_files (stored_files (objects pool.old table.old.entries))
         (shape_of entries.now.items))) }
 {
@@ -201,7 +201,7 @@ fn write_tree<N: Naming>(
     ensures stores { StoresTrees result N.digest_of pool.old table.old pool.new table.new
         (entries_of_shape (shape_of entries.now.items) ∷ [])
         (tree_name N.digest_of (entries_of_shape (shape_of entries.now.items))) }
-    ensures lists { IfOk result (λ id. ListsTree (objects pool.new table.new.entries) id
+    ensures lists { IfOk result (λ id. ListsPlain (objects pool.new table.new.entries) id
         (shape_files (stored_files (objects pool.old table.old.entries))
         (shape_of entries.now.items))) }
 {

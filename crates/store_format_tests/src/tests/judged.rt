@@ -80,8 +80,8 @@ fn code_with_change(
     Ok(code_with(alloc, judged, &bytes))
 }
 
-// 0 stands for a file that passes.
-fn number_of(digit: u8) -> u16 {
+/// The number of a fault by its last digit. 0 stands for a file that passes.
+pub fn number_of(digit: u8) -> u16 {
     match digit {
         b'0' => 0,
         digit => 60 + u16::from(digit.saturating_sub(b'0')),

@@ -31,7 +31,7 @@ returns-in-Commit-clause-done g c sound =
 pub returns-in-Change-clause-done : goal.returns-in-Change-clause-done
 unfolding after_act
 returns-in-Change-clause-done g c sound =
-    rw c.in-Change.is (c.carry_out_change.ensures.done c.args.refs.now c.args.out.now.items sound.objects)
+    rw c.in-Change.is (c.carry_out_change.ensures.done c.args.refs.now c.args.out.now.items)
 
 pub returns-in-Change-clause-committed : goal.returns-in-Change-clause-committed
 returns-in-Change-clause-committed g c =

@@ -1,3 +1,4 @@
+use Rattle.git_model.proofs.Readables.{objects_are}
 use Rattle.tenant_tables.specs.Objects.{objects}
 use Rattle.stream_commands.specs.State.{state_shown}
 use Rattle.stream_commands.proofs.HeldLemmas.{still_held}
@@ -44,8 +45,8 @@ returns-in-Message-clause-done g c out sound = rw c.in-Message.is (c.open_commit
 
 pub returns-in-From-clause-done : goal.returns-in-From-clause-done
 returns-in-From-clause-done g c out sound =
-    rw c.in-From.is (c.start_open.ensures.done out sound.objects)
+    rw c.in-From.is (c.start_open.ensures.done out (objects_are _ _ sound.objects))
 
 pub returns-in-Merge-clause-done : goal.returns-in-Merge-clause-done
 returns-in-Merge-clause-done g c out sound =
-    rw c.in-Merge.is ((rw c.of.ensures at c.merge_open.ensures.done) out c.args.table.now.committed sound.objects)
+    rw c.in-Merge.is ((rw c.of.ensures at c.merge_open.ensures.done) out c.args.table.now.committed (objects_are _ _ sound.objects))

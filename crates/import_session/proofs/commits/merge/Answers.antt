@@ -1,5 +1,4 @@
 use Rattle.std.proofs.lemmas.Result.{err_from_is_err_and}
-use Rattle.git_model.proofs.Readables.{objects_are}
 use Rattle.stream_grammar.specs.Shown.{commit_shown as said_shown}
 use Rattle.open_commits.specs.OpenCommit.{shown_in}
 use Rattle.open_commits.specs.Parents.{merged}
@@ -13,7 +12,7 @@ returns-in_err-id-clause-done g c committed good =
     let workspace = workspace_over (state_shown c.args.state.now) c.args.objects.now committed c.args.refs.now in
     let failed = err_from_is_err_and c.from_residual.result c.from_residual.ensures.1 in
     rw failed.1 (named_refused (commit_in workspace (said_shown c.args.other.now)) _ c.in_err-id.field-0.0 failed.0 failed.2
-    (c.in_err-id.ensures.named committed (objects_are _ _ good)))
+    (c.in_err-id.ensures.named committed good))
 
 pub returns-clause-done : goal.returns-clause-done
 returns-clause-done g c committed good =
@@ -21,4 +20,4 @@ returns-clause-done g c committed good =
     rw c.passed_on.ensures (changed_then (commit_in workspace (said_shown c.args.other.now))
     (λ id. merged id (shown_in workspace.objects c.args.commit.now)) c.in_ok-id.id
     (shown_in workspace.objects c.args.commit.now) (shown_in workspace.objects c.merge.new.self) c.merge.result
-    (c.in_ok-id.ensures.named committed (objects_are _ _ good)) (c.merge.ensures.changes workspace.objects))
+    (c.in_ok-id.ensures.named committed good) (c.merge.ensures.changes workspace.objects))

@@ -1,5 +1,6 @@
 use Rattle.std.proofs.Common.{◌≡◌, List, ℕ, Option, Ok, ap, sym, subst}
 use Rattle.open_commits.specs.OpenCommit.{begun, header_shown}
+use Rattle.git_model.proofs.Readables.{objects_are}
 use Rattle.tenant_tables.specs.Objects.{objects}
 use Rattle.stream_parts.specs.Branches.{Branches, branch_set, tip_commit, tip_for}
 use Rattle.import_session.specs.Opening.{IsTipCommit}
@@ -33,4 +34,4 @@ returns-clause-opened g c refs sound =
     (subst (λ (branches : Branches). branch_set workspace.stream.branches c.args.header.ref_name
     (tip_for (tip_commit workspace.stream.branches c.args.header.ref_name)) ≡ Ok branches)
     (ap (λ (state : StreamState). state.stream.branches) (sym c.take_files-files.ensures.state)) placed.2)
-    (c.begin.ensures.begun sound.objects tip)
+    (c.begin.ensures.begun (objects_are _ _ sound.objects) tip)

@@ -34,7 +34,7 @@ gather-gather_entry-requires g t c κs within =
     let has =
     subst (λ (l : List TreeEntry). HasTree (objects c.args.pool.now c.args.table.now.entries) c.args.id.now (entries_of l)) (sym c.deref-entry-items.ensures.value) (rw c.of.ensures at c.in_ok-entries.ensures) in
     let before = λ (dir : c.entry-item.result.mode ≡ mode.Directory).
-    inside_before g.N.Naming.digest_of c.args.pool.now c.args.table.now.entries c.requires.stands c.args.id.now c.deref-entry-items.result.now c.loop-entry.entry-index c.entry-item.result has
+    inside_before g.N.Naming.digest_of c.args.pool.now c.args.table.now.entries c.requires.stands c.args.id.now c.deref-entry-items.result.now c.loop-entry.entry-index c.entry-item.result has c.requires.tree
     c.loop-entry-test.true c.entry-item.is dir in
     let less = weighs_less c.entry-item.result.mode
     (position_of c.entry-item.result.id c.args.table.now.entries) (position_of c.args.id.now c.args.table.now.entries) (λ (dir : c.entry-item.result.mode ≡ mode.Directory). (before dir).0) in (

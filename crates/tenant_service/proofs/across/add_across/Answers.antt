@@ -3,7 +3,7 @@ use Rattle.git_model.specs.Content.{Content, name_by}
 use Rattle.content_pool.specs.Pool.{Puts, content}
 use Rattle.tenant_tables.specs.declared.summary.Summary.{Summary}
 use Rattle.tenant_tables.specs.Adding.{Adds}
-use Rattle.tenant_tables.specs.Trees.{SummedAfter}
+use Rattle.tenant_tables.specs.Summed.{SummedAfter}
 use Rattle.tenant_tables.specs.View.{View}
 use Rattle.tenant_service.specs.Across.{HasFirst}
 use Rattle.tenant_service.proofs.AcrossLemmas.{is-new, is-spare, left-first, left-stands, on-ok, put-named, put-room, put-short, put-stands, put-summed, source-live, source-named}

@@ -2,7 +2,7 @@ use Rattle.std.proofs.Common.{◌<◌, Option, get_or, length, refl, sym, subst,
 use Rattle.content_pool.specs.Pool.{content}
 use Rattle.tenant_tables.specs.declared.summary.Summary.{Summary}
 use Rattle.tenant_tables.specs.Adding.{Adds}
-use Rattle.tenant_tables.specs.Trees.{SummedAfter}
+use Rattle.tenant_tables.specs.Summed.{SummedAfter}
 use Rattle.tenant_tables.proofs.Copies.{IsNext, and-next, is-at, is-live, is-named, is-new, is-short, is-spare, is-summed, none-yet, room-for}
 use Rattle.tenant_tables.proofs.copying.add_places.Goals as goal
 

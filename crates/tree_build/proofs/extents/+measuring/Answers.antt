@@ -6,7 +6,7 @@ use Rattle.tenant_tables.specs.Trees.{below, both}
 use Rattle.file_maps.specs.Edits.{moved}
 use Rattle.file_maps.specs.Storable.{files_summary}
 use Rattle.file_maps.specs.StoredFiles.{stored_files}
-use Rattle.file_maps.proofs.Backed.{summary-listed}
+use Rattle.file_maps.proofs.KnownTrees.{plain-sum}
 use Rattle.tree_build.specs.declared.dir.Node.{Node}
 use Rattle.tree_build.specs.Shape.{opened, Directory, shape_files, held_files}
 use Rattle.tree_build.specs.Branch.{IsWhat, IsHeld}
@@ -22,7 +22,7 @@ extent-returns-in-Unopened g t c =
     let sound = subst (λ (n : Node). IsHeld os (held n)) c.in-Unopened.is c.requires.sound in
     c.unwrap_or.ensures
     ∙ ap (λ (o : Option Summary). unwrap_or o c.no_files.result)
-    (summary-listed c.are_backed.ensures _ c.summary.ensures _ sound.0)
+    (c.summary.ensures ∙ plain-sum os _ _ sound.0)
     ∙ ap (λ (n : Node). files_summary (held_files (stored_files os) (held n)))
     (sym c.in-Unopened.is)
 
@@ -115,4 +115,4 @@ extent_of_dir-returns-in-Some g t c =
     known c.requires.sound.0 in
     c.unwrap_or.ensures
     ∙ ap (λ (o : Option Summary). unwrap_or o c.no_files.result)
-    (summary-listed c.are_backed.ensures _ c.summary.ensures _ lists)
+    (c.summary.ensures ∙ plain-sum os _ _ lists)

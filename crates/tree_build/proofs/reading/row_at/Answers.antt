@@ -7,7 +7,7 @@ use Rattle.tree_build.specs.Standing.{row_named}
 use Rattle.tree_build.proofs.reading.row_at.Goals as goal
 
 pub read_entries-requires : goal.read_entries-requires
-read_entries-requires g c = (c.requires.tree.direct, c.requires.tree.tree)
+read_entries-requires g c = (c.requires.tree.tree.direct, c.requires.tree.tree.tree)
 
 pub returns : goal.returns
 returns g c = record {

@@ -7,7 +7,7 @@ use Rattle.file_maps.specs.declared.fault.Fault.{Fault}
 use Rattle.tenant_tables.specs.Objects.{objects}
 use Rattle.file_maps.specs.FileMap.{Listed}
 use Rattle.file_maps.specs.Trees.{Groups, file_of, unless_file, nested_trees, tree_name}
-use Rattle.file_maps.specs.StoredTree.{ListsTree}
+use Rattle.file_maps.specs.PlainTrees.{ListsPlain}
 use Rattle.file_maps.specs.Storable.{AreStorable}
 use Rattle.file_maps.specs.StoredFiles.{stored_files}
 use Rattle.file_maps.specs.Storing.{StoresTrees, AddsSome}
@@ -202,7 +202,7 @@ store_dir-returns-in_ok-name-in-None-clause-sound g t c =
     let grows = stores-grow g.N.Naming.digest_of c.add_tree.result c.store_inside.new.pool c.add_tree.new.pool c.store_inside.new.table c.add_tree.new.table _ _ c.add_tree.ensures.stores in
     let s = shape_of c.store_inside.new.entries.items in
     let sound = c.in_ok-store_inside-in-None.ensures.sound in (
-      subst (ListsTree after c.in_ok-name-in-None.name) (sym (files-later os after grows s sound))
+      subst (ListsPlain after c.in_ok-name-in-None.name) (sym (files-later os after grows s sound))
           c.in_ok-name-in-None.ensures.lists,
       shape-later os after grows s sound,
     )

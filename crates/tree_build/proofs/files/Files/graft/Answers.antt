@@ -21,9 +21,7 @@ put : (g : Over) (c : In_ok-summary g)
     → IsStored (objects c.args.pool.now c.args.table.now.entries) c.args.name.now
     c.in_ok-summary.summary
 put g c =
-    tree-here
-    (of_table g.N.Naming.digest_of c.args.pool.now c.args.table.now.entries c.requires.stands)
-    c.in_ok-summary.summary
+    tree-here c.in_ok-summary.summary
     (rw c.of-objects.ensures at c.in_ok-summary.ensures.tree)
 
 -- whether its files may stand at the path
@@ -32,7 +30,7 @@ stand : (g : Over) (c : After-may_stand g) (b : Bool) → c.may_stand.result ≡
     (files_summary
     (stored_files (objects c.args.pool.now c.args.table.now.entries) c.args.name.now)) ≡ b
 stand g c b is =
-    let stored = tree-here (of_table g.N.Naming.digest_of c.args.pool.now c.args.table.now.entries c.requires.stands) c.in_ok-summary.summary (rw c.of-objects.ensures at c.in_ok-summary.ensures.tree) in
+    let stored = tree-here c.in_ok-summary.summary (rw c.of-objects.ensures at c.in_ok-summary.ensures.tree) in
     ap (may_stand c.args.path.now) (sym stored.sum) ∙ sym c.may_stand.ensures ∙ is
 
 pub returns-then-not-may_stand-clause-edits : goal.returns-then-not-may_stand-clause-edits
